@@ -1,0 +1,4 @@
+-- The definitions of names, in document 01's order.
+pub mod Byte
+pub mod Words
+pub mod Forms

@@ -1,0 +1,2 @@
+-- The definitions of schemas and schema tables.
+pub mod Ast

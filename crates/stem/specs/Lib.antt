@@ -1,0 +1,2 @@
+-- The definition of an import's name.
+pub mod Stem

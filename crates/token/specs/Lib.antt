@@ -1,0 +1,3 @@
+-- The definitions of tokens and token tables.
+pub mod Kind
+pub mod Token

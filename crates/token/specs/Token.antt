@@ -1,0 +1,9 @@
+-- A token, as a record of a token table gives it: a kind from 1 to 25 (Kind.antt), its source range, its payload.
+use Prim.Native.Nat.{ℕ}
+use Rattle.wire.specs.Bytes.{Bytes}
+
+pub record Token : Type 0 where
+  pub kind : ℕ
+  pub start : ℕ
+  pub end : ℕ
+  pub payload : Bytes
