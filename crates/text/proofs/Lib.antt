@@ -1,0 +1,2 @@
+-- The theorems and laws of the canonical text.
+pub mod Cases
