@@ -5,7 +5,6 @@ use mathlib.Core.Option.{Option, none, some}
 use mathlib.Core.List.{List, [], _∷_, _++_}
 use lib.Dec.{eqb}
 use lib.ListN.{length}
-use Rattle.wire.specs.Bytes.{Bytes}
 use Rattle.wire.specs.Pick.{pick}
 use Rattle.token.specs.Token.{Token, endOf}
 use Rattle.token.specs.Kind.{isPlain, isRule, isKeyword, kAs, kColon, kComment, kDeleted, kDot, kEquals, kIdentifier, kImport, kInteger, kLeftCurly, kLeftSquare, kPath, kRightCurly, kRightSquare, kStruct}
@@ -13,7 +12,7 @@ use Rattle.schema.specs.Ast.{Schema}
 use Rattle.grammar.specs.Tree.{TypeTree, array, plain, single, dotted, TypePart, FieldTree, DeletedPart, HeadTree, DeclarationTree, AliasPart, ImportTree, SchemaTree, isOpening}
 use Rattle.grammar.specs.Error.{Error, errorAt, kindAt}
 use Rattle.grammar.specs.Condition.{importErrors, indexErrors}
-use Rattle.grammar.specs.Meaning.{nameOf, schemaOf}
+use Rattle.grammar.specs.Meaning.{schemaOf}
 
 -- What a rule of the grammar gives: a value and the tokens after it, or an error's number and the tokens from the offending one on.
 pub data Result (A : Type 0) : Type 0 where
@@ -209,16 +208,16 @@ parseImport i ts =
     andThen (optional (is kAs) parseAlias ts₁) λ a ts₂.
     ok (record { keyword = i; path = p; alias = a }) ts₂
 
--- a failed import is dropped, and import reading goes on where it stopped; `names` are those of the imports before
-abbrev pub parseImports : ℕ → ℕ → List Bytes → List Token → Reading (List ImportTree)
-parseImports zero end names ts = nothing ts
-parseImports (suc k) end names [] = nothing []
-parseImports (suc k) end names (t ∷ ts) =
+-- a failed import is dropped, and import reading goes on where it stopped
+abbrev pub parseImports : ℕ → ℕ → List ImportTree → List Token → Reading (List ImportTree)
+parseImports zero end before ts = nothing ts
+parseImports (suc k) end before [] = nothing []
+parseImports (suc k) end before (t ∷ ts) =
     elim (eqb (t .kind) kImport) [
       | false ↦ nothing (t ∷ ts)
       | true ↦ elim (parseImport t ts) [
-        | ok i r ↦ join (record { errors = importErrors names i; value = i ∷ []; rest = r }) (parseImports k end (nameOf i ∷ names) r)
-        | fail n r ↦ join (record { errors = errorAt end n r ∷ []; value = []; rest = r }) (parseImports k end names r)
+        | ok i r ↦ join (record { errors = importErrors before i; value = i ∷ []; rest = r }) (parseImports k end (i ∷ before) r)
+        | fail n r ↦ join (record { errors = errorAt end n r ∷ []; value = []; rest = r }) (parseImports k end before r)
       ]
     ]
 
