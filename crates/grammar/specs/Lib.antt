@@ -5,4 +5,5 @@ pub mod Sort
 pub mod Meaning
 pub mod Error
 pub mod Condition
+pub mod Derivation
 pub mod Reading

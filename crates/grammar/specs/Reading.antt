@@ -253,9 +253,8 @@ pub data Outcome : Type 0 where
   schema : Schema → Outcome
   errors : List Error → Outcome
 
-abbrev pub outcomeOf : List Error → Schema → Outcome
-outcomeOf [] s = schema s
-outcomeOf (e ∷ es) s = errors (e ∷ es)
+abbrev pub outcomeOf : Reading SchemaTree → Outcome
+outcomeOf p = elim (p .errors) [ [] ↦ schema (schemaOf (p .value)) | e ∷ es ↦ errors (e ∷ es) ]
 
 unfoldable pub parse : List Token → Outcome
-parse ts = outcomeOf (parseSchema ts .errors) (schemaOf (parseSchema ts .value))
+parse ts = outcomeOf (parseSchema ts)
