@@ -10,3 +10,6 @@ pub mod NameOrder
 pub mod Conditions
 pub mod Schemas
 pub mod Outcomes
+pub mod Left
+pub mod Fuel
+pub mod Count

@@ -40,7 +40,7 @@ end-none [] [] h = (refl, refl)
 end-none [] (t ∷ ts) h = absurd (cons≢nil h)
 end-none (e ∷ es) ts h = absurd (cons≢nil h)
 
-end-same : (es : List Error) → parseEnd es [] ≡ es
+pub end-same : (es : List Error) → parseEnd es [] ≡ es
 end-same [] = refl
 end-same (e ∷ es) = refl
 
