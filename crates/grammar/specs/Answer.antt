@@ -47,7 +47,7 @@ bufferAfter buffer (refusal number offset) = buffer
 bufferAfter buffer (schema bs) = bs ++ drop (length bs) buffer
 bufferAfter buffer (errors bs) = bs ++ drop (length bs) buffer
 
--- a call that read this table was lent `before`, answered and left `after`
-pub record Read (table before after : Bytes) (answer : Answer) : Type 0 where
-  pub answer : answer ≡ readAnswer table (length before)
-  pub buffer : after ≡ bufferAfter before (readAnswer table (length before))
+-- a call that read this table was lent `before`, answered r and left `after`
+pub record Read (table before after : Bytes) (r : Answer) : Type 0 where
+  pub answer : r ≡ readAnswer table (length before)
+  pub buffer : after ≡ bufferAfter before r
