@@ -1,6 +1,7 @@
 -- The laws of names.
 pub mod Table
 pub mod Bytes
+pub mod Good
 pub mod Words
 pub mod Left
 pub mod Length
