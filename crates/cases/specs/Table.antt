@@ -4,7 +4,7 @@ use mathlib.Core.List.{List, [], _∷_}
 use Rattle.wire.specs.Bytes.{Bytes, bytes}
 use Rattle.wire.specs.Pick.{pick}
 use Rattle.identifier.specs.Forms.{snakeOf, pascalOf}
-use Rattle.identifier.specs.Order.{sameName}
+use Rattle.identifier.specs.Survive.{survives as doesSurvive}
 use Rattle.token.specs.Table.{encodeTokens}
 use Rattle.grammar.specs.Quoted.{tokensOf}
 use Rattle.cases.specs.Printed.{printed}
@@ -17,7 +17,7 @@ abbrev pub told : Asked → Bytes
 told (prints text) = printed (encodeTokens (tokensOf text))
 told (pascal name) = pascalOf (bytes name)
 told (snake name) = snakeOf (bytes name)
-told (survives name) = pick (sameName (pascalOf (bytes name)) (bytes name)) (bytes "yes") (bytes "no")
+told (survives name) = pick (doesSurvive (bytes name)) (bytes "yes") (bytes "no")
 
 pub record Case : Type 0 where
   pub asked : Asked
