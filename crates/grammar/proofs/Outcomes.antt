@@ -29,7 +29,8 @@ pub no-schema : (o : Outcome) → ((s : Schema) → o ≡ schema s → ⊥) → 
 no-schema (schema s) n = absurd (n s refl)
 no-schema (errors es) n = (es, refl)
 
-answered : (p : Reading SchemaTree) (es : List Error) (s : Schema) → p .errors ≡ es → outcomeOf p ≡ schema s → (p .errors ≡ []) × (s ≡ schemaOf (p .value))
+answered : (p : Reading SchemaTree) (es : List Error) (s : Schema) → p .errors ≡ es → outcomeOf p ≡ schema s
+    → (p .errors ≡ []) × (s ≡ schemaOf (p .value))
 answered p [] s e h = (e, same-schema (sym h ∙ rw e))
 answered p (x ∷ xs) s e h = let z : _≡_ {A = ℕ} 0 1 = cc in absurd (omega arith)
 
@@ -39,7 +40,8 @@ unfolding parse
 answers ts s h = answered (parseSchema ts) (parseSchema ts .errors) s refl h
 
 -- an answer that is a schema table fits, and is the schema's
-schema-fitted : (room : ℕ) (o : Outcome) (bs : Bytes) → fitted room (answerOf o) ≡ Answer.schema bs → (s : Schema) × (o ≡ schema s) × (bs ≡ encodeSchema s)
+schema-fitted : (room : ℕ) (o : Outcome) (bs : Bytes) → fitted room (answerOf o) ≡ Answer.schema bs
+    → (s : Schema) × (o ≡ schema s) × (bs ≡ encodeSchema s)
 unfolding fitted pick
 schema-fitted room (schema s) bs h = go (leb (length (encodeSchema s)) room) refl
   where
@@ -58,6 +60,7 @@ unfolding readAnswer
 table-schema table room ts bs d h = schema-fitted room (parse ts) bs (rw d at h)
 
 -- an outcome whose bytes fit is the answer
-pub table-answer : (table : Bytes) (room : ℕ) (ts : List Token) → decode table ≡ tokens ts → length (bytesOf (answerOf (parse ts))) ≤ room → readAnswer table room ≡ answerOf (parse ts)
+pub table-answer : (table : Bytes) (room : ℕ) (ts : List Token) → decode table ≡ tokens ts → length (bytesOf (answerOf (parse ts))) ≤ room
+    → readAnswer table room ≡ answerOf (parse ts)
 unfolding readAnswer fitted pick
 table-answer table room ts d l = rw (d, le-leb (length (bytesOf (answerOf (parse ts)))) room l)
