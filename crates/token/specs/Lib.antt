@@ -3,3 +3,5 @@ pub mod Kind
 pub mod Token
 pub mod Payload
 pub mod Table
+pub mod Checked
+pub mod Places
