@@ -188,7 +188,7 @@ module _ {t : Bytes} {at : ℕ} (w : Wf t at) (h : at < length t) where
   pub integer-size : tokAt t at .kind ≡ kInteger → sizeOf (drop at t) ≡ 20
   unfolding isPayload isInteger pick
   integer-size e =
-      let p : eqb (length (tokAt t at .payload)) 8 ≡ true = rw e at (wf-good .payload) in
+      let p : eqb (length (tokAt t at .payload)) 8 ≡ true = rw e at (wf-good .sound .payload) in
       let l = payload-length in
       let q = eqb-true (length (tokAt t at .payload)) 8 p in
       omega arith
