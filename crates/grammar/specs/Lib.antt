@@ -5,4 +5,7 @@ pub mod Sort
 pub mod Meaning
 pub mod Error
 pub mod Condition
+pub mod Derivation
 pub mod Reading
+pub mod Answer
+pub mod Quoted
