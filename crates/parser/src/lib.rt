@@ -1,6 +1,14 @@
-// The rules of parser.rs over a checked token table: each is a function from a cursor to where it read what, or to an error's number and place.
-use token::kind_at;
-use token::next_at;
+// The rules of parser.rs over a checked token table. Each goes from a cursor to the places of what it read and the cursor past it, or to an error's number and place.
+ghost use mathlib.Core.Path.{_≡_};
+ghost use Prim.Native.Nat.{_<_};
+ghost use lib.Dec.{eqb};
+ghost use Rattle.wire.specs.Pick.{pick};
+ghost use Rattle.token.specs.Kind.{kStruct, isPlain, isRule, isKeyword};
+ghost use Rattle.token.specs.Places.{Wf};
+ghost use Rattle.grammar.specs.Error.{kindAt};
+ghost use Rattle.grammar.specs.Reading.{is, consume, isDotted, parseDotted, parseSingle, parseType};
+ghost use Rattle.parser.specs.Steps.{ahead, Stepped, TokenRead, Skipped, TypeRead, baseStep, Opened, PartRead, FieldRead, HeadRead, ImportRead};
+use token::kind;
 
 // A place in the token table: a record's, or the table's length at the end of the tokens.
 pub struct Cursor {
@@ -8,38 +16,85 @@ pub struct Cursor {
 }
 
 // The kind of the token at c; 0 at the end.
-pub fn kind_or_end(t: &[u8], c: Cursor) -> u16 {
+pub fn kind_or_end(t: &[u8], c: Cursor) -> u16
+    requires { ⌜ Wf (now t) (c .at) ⌝ }
+    ensures { λ r. ⌜ r ≡ kindAt (ahead (now (t .entry)) c) ⌝ }
+{
     let at = c.at;
     if at < t.len() {
-        return kind_at(t, at);
+        return token::kind_at(t, at);
     }
     0
 }
 
-pub fn next(t: &[u8], c: Cursor) -> Cursor {
+pub fn next(t: &[u8], c: Cursor) -> Cursor
+    requires { ⌜ (Wf (now t) (c .at)) × (0 < kindAt (ahead (now t) c)) ⌝ }
+    ensures { λ r. ⌜ Stepped (now (t .entry)) c r ⌝ }
+{
     let at = c.at;
     Cursor {
-        at: next_at(t, at),
+        at: token::next_at(t, at),
     }
 }
 
-// Past a token of this kind, where one stands.
-pub fn skip_one(t: &[u8], c: Cursor, kind: u16) -> Cursor {
+pub enum TokenStep {
+    Passed(Cursor),
+    Failed(u16, Cursor),
+}
+
+// The Rust's consume_token_0 and consume_token_1.
+fn consume_token(t: &[u8], c: Cursor, kind: u16, number: u16) -> TokenStep
+    requires { ⌜ (Wf (now t) (c .at)) × (0 < kind) ⌝ }
+    ensures { λ r. ⌜ TokenRead (now (t .entry)) c (consume number (is kind)) r ⌝ }
+{
+    if kind_or_end(t, c) != kind {
+        return TokenStep::Failed(number, c);
+    }
+    TokenStep::Passed(next(t, c))
+}
+
+// Whether an optional token stood there, and the cursor past it.
+pub struct Skip {
+    pub there: bool,
+    pub next: Cursor,
+}
+
+pub fn skip_token(t: &[u8], c: Cursor, kind: u16) -> Skip
+    requires { ⌜ (Wf (now t) (c .at)) × (0 < kind) ⌝ }
+    ensures { λ r. ⌜ Skipped (now (t .entry)) c (is kind) r ⌝ }
+{
     if kind_or_end(t, c) == kind {
-        return next(t, c);
+        return Skip {
+            there: true,
+            next: next(t, c),
+        };
     }
-    c
+    Skip {
+        there: false,
+        next: c,
+    }
 }
 
-pub fn is_plain(kind: u16) -> bool {
-    match kind {
-        3 | 4 | 11 | 21 | 22 | 24 | 25 => true,
-        _ => false,
+fn skip_rule(t: &[u8], c: Cursor) -> Skip
+    requires { ⌜ Wf (now t) (c .at) ⌝ }
+    ensures { λ r. ⌜ Skipped (now (t .entry)) c isRule r ⌝ }
+{
+    let kind = kind_or_end(t, c);
+    if (kind == kind::ASYMMETRIC) | (kind == kind::OPTIONAL) {
+        return Skip {
+            there: true,
+            next: next(t, c),
+        };
+    }
+    Skip {
+        there: false,
+        next: c,
     }
 }
 
-// Where a type stands: `depth` brackets, the base, of one token or dotted, and as many brackets from `close` on.
+// Where a type stands: from `opens` on `depth` brackets, then the base, of one token or dotted, then as many brackets from `close` on.
 pub struct TypePlaces {
+    pub opens: usize,
     pub depth: usize,
     pub base: usize,
     pub dotted: bool,
@@ -51,96 +106,150 @@ pub enum TypeStep {
     Failed(u16, Cursor),
 }
 
-// Whether a dot stands at `second` and one more token after it.
-fn is_dotted(t: &[u8], second: Cursor) -> bool {
-    if kind_or_end(t, second) != 9 {
+fn is_plain(kind: u16) -> bool
+    ensures { λ r. ⌜ r ≡ isPlain kind ⌝ }
+{
+    (kind == kind::BOOL)
+        | (kind == kind::BYTES)
+        | (kind == kind::F64)
+        | (kind == kind::S64)
+        | (kind == kind::STRING)
+        | (kind == kind::U64)
+        | (kind == kind::UNIT)
+}
+
+// Whether a dot stands at c and one more token after it.
+fn is_dotted(t: &[u8], c: Cursor) -> bool
+    requires { ⌜ Wf (now t) (c .at) ⌝ }
+    ensures { λ r. ⌜ r ≡ isDotted (ahead (now (t .entry)) c) ⌝ }
+{
+    if kind_or_end(t, c) != kind::DOT {
         return false;
     }
-    kind_or_end(t, next(t, second)) != 0
+    kind_or_end(t, next(t, c)) != 0
 }
 
-fn parse_dotted(t: &[u8], c: Cursor, second: Cursor) -> TypeStep {
-    if kind_or_end(t, c) != 12 {
-        return TypeStep::Failed(10, c);
-    }
-    let third = next(t, second);
-    if kind_or_end(t, third) != 12 {
-        return TypeStep::Failed(9, third);
-    }
-    let after = next(t, third);
+// A type with no brackets.
+fn base_type(c: Cursor, dotted: bool, after: Cursor) -> TypeStep
+    ensures { λ r. ⌜ r ≡ baseStep c dotted after ⌝ }
+{
     TypeStep::Passed(
         TypePlaces {
+            opens: c.at,
             depth: 0,
             base: c.at,
-            dotted: true,
+            dotted,
             close: after.at,
         },
         after,
     )
 }
 
-// One token that is a type by itself.
-fn base_type(c: Cursor, after: Cursor) -> TypeStep {
-    TypeStep::Passed(
-        TypePlaces {
-            depth: 0,
-            base: c.at,
-            dotted: false,
-            close: after.at,
-        },
-        after,
-    )
-}
-
-fn parse_array(t: &[u8], inner: TypeStep) -> TypeStep {
-    let TypeStep::Passed(p, close) = inner else {
-        return inner;
+fn parse_dotted(t: &[u8], c: Cursor) -> TypeStep
+    requires { ⌜ Wf (now t) (c .at) ⌝ }
+    ensures { λ r. ⌜ TypeRead (now (t .entry)) c parseDotted r ⌝ }
+{
+    let dot = match consume_token(t, c, kind::IDENTIFIER, 10) {
+        TokenStep::Passed(after) => after,
+        TokenStep::Failed(number, at) => return TypeStep::Failed(number, at),
     };
-    if kind_or_end(t, close) != 20 {
-        return TypeStep::Failed(11, close);
+    let name = match consume_token(t, dot, kind::DOT, 9) {
+        TokenStep::Passed(after) => after,
+        TokenStep::Failed(number, at) => return TypeStep::Failed(number, at),
+    };
+    match consume_token(t, name, kind::IDENTIFIER, 9) {
+        TokenStep::Passed(after) => base_type(c, true, after),
+        TokenStep::Failed(number, at) => TypeStep::Failed(number, at),
     }
-    TypeStep::Passed(
-        TypePlaces {
-            depth: p.depth + 1,
-            base: p.base,
-            dotted: p.dotted,
-            close: p.close,
-        },
-        next(t, close),
-    )
 }
 
-pub fn parse_type(t: &[u8], c: Cursor) -> TypeStep {
+fn parse_single(t: &[u8], c: Cursor) -> TypeStep
+    requires { ⌜ Wf (now t) (c .at) ⌝ }
+    ensures { λ r. ⌜ TypeRead (now (t .entry)) c parseSingle r ⌝ }
+{
+    match consume_token(t, c, kind::IDENTIFIER, 9) {
+        TokenStep::Passed(after) => base_type(c, false, after),
+        TokenStep::Failed(number, at) => TypeStep::Failed(number, at),
+    }
+}
+
+// After `[` the inner type was read; `]` is due.
+fn parse_closing(t: &[u8], left: Cursor, inner: TypeStep) -> TypeStep
+    requires { ⌜ Opened (now t) left inner ⌝ }
+    ensures { λ r. ⌜ TypeRead (now (t .entry)) left parseType r ⌝ }
+{
+    match inner {
+        TypeStep::Failed(number, at) => TypeStep::Failed(number, at),
+        TypeStep::Passed(p, close) => match consume_token(t, close, kind::RIGHT_SQUARE, 11) {
+            TokenStep::Failed(number, at) => TypeStep::Failed(number, at),
+            TokenStep::Passed(after) => TypeStep::Passed(
+                TypePlaces {
+                    opens: left.at,
+                    depth: p.depth + 1,
+                    base: p.base,
+                    dotted: p.dotted,
+                    close: p.close,
+                },
+                after,
+            ),
+        },
+    }
+}
+
+pub fn parse_type(t: &[u8], c: Cursor) -> TypeStep
+    requires { ⌜ Wf (now t) (c .at) ⌝ }
+    ensures { λ r. ⌜ TypeRead (now (t .entry)) c parseType r ⌝ }
+{
     let kind = kind_or_end(t, c);
     if kind == 0 {
         return TypeStep::Failed(9, c);
     }
     let second = next(t, c);
-    if kind == 16 {
-        return parse_array(t, parse_type(t, second));
+    if kind == kind::LEFT_SQUARE {
+        return parse_closing(t, c, parse_type(t, second));
     }
     if is_plain(kind) {
-        return base_type(c, second);
+        return base_type(c, false, second);
     }
     if is_dotted(t, second) {
-        return parse_dotted(t, c, second);
+        return parse_dotted(t, c);
     }
-    if kind != 12 {
-        return TypeStep::Failed(9, c);
-    }
-    base_type(c, second)
+    parse_single(t, c)
 }
 
-// Where a field stands: a comment at `first` where it is commented, a rule at `rule` where it is ruled, a type from `opens` on where it is typed.
+// Where a field's type stands, after the colon's place.
+pub enum PartPlaces {
+    Absent,
+    Present(usize, TypePlaces),
+}
+
+pub enum PartStep {
+    Passed(PartPlaces, Cursor),
+    Failed(u16, Cursor),
+}
+
+fn parse_type_part(t: &[u8], c: Cursor) -> PartStep
+    requires { ⌜ Wf (now t) (c .at) ⌝ }
+    ensures { λ r. ⌜ PartRead (now (t .entry)) c r ⌝ }
+{
+    let colon = skip_token(t, c, kind::COLON);
+    if !colon.there {
+        return PartStep::Passed(PartPlaces::Absent, c);
+    }
+    match parse_type(t, colon.next) {
+        TypeStep::Passed(p, after) => PartStep::Passed(PartPlaces::Present(c.at, p), after),
+        TypeStep::Failed(number, at) => PartStep::Failed(number, at),
+    }
+}
+
+// Where a field stands: a comment at `first` where it is commented, a rule at `rule` where it is ruled.
 pub struct FieldPlaces {
     pub first: usize,
     pub commented: bool,
     pub rule: usize,
     pub ruled: bool,
     pub name: usize,
-    pub typed: bool,
-    pub opens: usize,
-    pub shape: TypePlaces,
+    pub part: PartPlaces,
     pub equals: usize,
     pub index: usize,
 }
@@ -150,72 +259,44 @@ pub enum FieldStep {
     Failed(u16, Cursor),
 }
 
-fn is_rule(kind: u16) -> bool {
-    (kind == 2) | (kind == 17)
-}
-
-fn skip_rule(t: &[u8], c: Cursor) -> Cursor {
-    if is_rule(kind_or_end(t, c)) {
-        return next(t, c);
-    }
-    c
-}
-
-// From the `=` on.
-fn parse_index(t: &[u8], c: Cursor, f: FieldPlaces) -> FieldStep {
-    if kind_or_end(t, c) != 10 {
-        return FieldStep::Failed(12, c);
-    }
-    let i = next(t, c);
-    if kind_or_end(t, i) != 14 {
-        return FieldStep::Failed(13, i);
-    }
-    let mut g = f;
-    g.equals = c.at;
-    g.index = i.at;
-    FieldStep::Passed(g, next(t, i))
-}
-
-pub fn parse_field(t: &[u8], c: Cursor) -> FieldStep {
-    let r = skip_one(t, c, 7);
-    let n = skip_rule(t, r);
-    if kind_or_end(t, n) != 12 {
-        return FieldStep::Failed(8, n);
-    }
-    let colon = next(t, n);
-    let mut f = FieldPlaces {
-        first: c.at,
-        commented: c.at != r.at,
-        rule: r.at,
-        ruled: r.at != n.at,
-        name: n.at,
-        typed: false,
-        opens: 0,
-        shape: TypePlaces {
-            depth: 0,
-            base: 0,
-            dotted: false,
-            close: 0,
-        },
-        equals: 0,
-        index: 0,
+pub fn parse_field(t: &[u8], c: Cursor) -> FieldStep
+    requires { ⌜ Wf (now t) (c .at) ⌝ }
+    ensures { λ r. ⌜ FieldRead (now (t .entry)) c r ⌝ }
+{
+    let comment = skip_token(t, c, kind::COMMENT);
+    let rule = skip_rule(t, comment.next);
+    let colon = match consume_token(t, rule.next, kind::IDENTIFIER, 8) {
+        TokenStep::Passed(after) => after,
+        TokenStep::Failed(number, at) => return FieldStep::Failed(number, at),
     };
-    if kind_or_end(t, colon) != 6 {
-        return parse_index(t, colon, f);
-    }
-    let open = next(t, colon);
-    match parse_type(t, open) {
-        TypeStep::Failed(number, at) => FieldStep::Failed(number, at),
-        TypeStep::Passed(shape, after) => {
-            f.typed = true;
-            f.opens = open.at;
-            f.shape = shape;
-            parse_index(t, after, f)
+    match parse_type_part(t, colon) {
+        PartStep::Failed(number, at) => FieldStep::Failed(number, at),
+        PartStep::Passed(part, equals) => {
+            let index = match consume_token(t, equals, kind::EQUALS, 12) {
+                TokenStep::Passed(after) => after,
+                TokenStep::Failed(number, at) => return FieldStep::Failed(number, at),
+            };
+            match consume_token(t, index, kind::INTEGER, 13) {
+                TokenStep::Failed(number, at) => FieldStep::Failed(number, at),
+                TokenStep::Passed(after) => FieldStep::Passed(
+                    FieldPlaces {
+                        first: c.at,
+                        commented: comment.there,
+                        rule: comment.next.at,
+                        ruled: rule.there,
+                        name: rule.next.at,
+                        part,
+                        equals: equals.at,
+                        index: index.at,
+                    },
+                    after,
+                ),
+            }
         }
     }
 }
 
-// Where a declaration's head stands, up to its `{`.
+// Where a declaration's head stands, up to its `{`: a comment at `first` where it is commented.
 pub struct HeadPlaces {
     pub first: usize,
     pub commented: bool,
@@ -228,47 +309,59 @@ pub enum HeadStep {
     Failed(u16, Cursor),
 }
 
-fn name_number(keyword: u16) -> u16 {
-    if keyword == 23 {
+fn is_keyword(kind: u16) -> bool
+    ensures { λ r. ⌜ r ≡ isKeyword kind ⌝ }
+{
+    (kind == kind::STRUCT) | (kind == kind::CHOICE)
+}
+
+fn name_number(keyword: u16) -> u16
+    ensures { λ r. ⌜ r ≡ pick (eqb keyword kStruct) 2 3 ⌝ }
+{
+    if keyword == kind::STRUCT {
         return 2;
     }
     3
 }
 
-pub fn parse_head(t: &[u8], c: Cursor) -> HeadStep {
-    let k = skip_one(t, c, 7);
-    let keyword = kind_or_end(t, k);
-    if keyword == 0 {
+pub fn parse_head(t: &[u8], c: Cursor) -> HeadStep
+    requires { ⌜ Wf (now t) (c .at) ⌝ }
+    ensures { λ r. ⌜ HeadRead (now (t .entry)) c r ⌝ }
+{
+    let comment = skip_token(t, c, kind::COMMENT);
+    let keyword = comment.next;
+    let kind = kind_or_end(t, keyword);
+    if comment.there & (kind == 0) {
         return HeadStep::Failed(18, c);
     }
-    if (keyword != 23) & (keyword != 5) {
-        return HeadStep::Failed(1, k);
+    if !is_keyword(kind) {
+        return HeadStep::Failed(1, keyword);
     }
-    let n = next(t, k);
-    if kind_or_end(t, n) != 12 {
-        return HeadStep::Failed(name_number(keyword), n);
+    let name = next(t, keyword);
+    let left = match consume_token(t, name, kind::IDENTIFIER, name_number(kind)) {
+        TokenStep::Passed(after) => after,
+        TokenStep::Failed(number, at) => return HeadStep::Failed(number, at),
+    };
+    match consume_token(t, left, kind::LEFT_CURLY, 4) {
+        TokenStep::Failed(number, at) => HeadStep::Failed(number, at),
+        TokenStep::Passed(after) => HeadStep::Passed(
+            HeadPlaces {
+                first: c.at,
+                commented: comment.there,
+                keyword: keyword.at,
+                name: name.at,
+            },
+            after,
+        ),
     }
-    let l = next(t, n);
-    if kind_or_end(t, l) != 15 {
-        return HeadStep::Failed(4, l);
-    }
-    HeadStep::Passed(
-        HeadPlaces {
-            first: c.at,
-            commented: c.at != k.at,
-            keyword: k.at,
-            name: n.at,
-        },
-        next(t, l),
-    )
 }
 
-// Where an import stands: `import` at first, its path, and its name after `as` where it is aliased.
+// Where an import stands: `import` at `first`, its path, and its last token, which is the name after `as` where it is aliased, and else the path.
 pub struct ImportPlaces {
     pub first: usize,
     pub path: usize,
     pub aliased: bool,
-    pub name: usize,
+    pub last: usize,
 }
 
 pub enum ImportStep {
@@ -277,34 +370,37 @@ pub enum ImportStep {
 }
 
 // At an `import`.
-pub fn parse_import(t: &[u8], c: Cursor) -> ImportStep {
-    let p = next(t, c);
-    if kind_or_end(t, p) != 18 {
-        return ImportStep::Failed(6, p);
-    }
-    let a = next(t, p);
-    if kind_or_end(t, a) != 1 {
+pub fn parse_import(t: &[u8], c: Cursor) -> ImportStep
+    requires { ⌜ (Wf (now t) (c .at)) × (0 < kindAt (ahead (now t) c)) ⌝ }
+    ensures { λ r. ⌜ ImportRead (now (t .entry)) c r ⌝ }
+{
+    let path = next(t, c);
+    let end = match consume_token(t, path, kind::PATH, 6) {
+        TokenStep::Passed(after) => after,
+        TokenStep::Failed(number, at) => return ImportStep::Failed(number, at),
+    };
+    let alias = skip_token(t, end, kind::AS);
+    if !alias.there {
         return ImportStep::Passed(
             ImportPlaces {
                 first: c.at,
-                path: p.at,
+                path: path.at,
                 aliased: false,
-                name: p.at,
+                last: path.at,
             },
-            a,
+            end,
         );
     }
-    let n = next(t, a);
-    if kind_or_end(t, n) != 12 {
-        return ImportStep::Failed(7, n);
+    match consume_token(t, alias.next, kind::IDENTIFIER, 7) {
+        TokenStep::Failed(number, at) => ImportStep::Failed(number, at),
+        TokenStep::Passed(after) => ImportStep::Passed(
+            ImportPlaces {
+                first: c.at,
+                path: path.at,
+                aliased: true,
+                last: alias.next.at,
+            },
+            after,
+        ),
     }
-    ImportStep::Passed(
-        ImportPlaces {
-            first: c.at,
-            path: p.at,
-            aliased: true,
-            name: n.at,
-        },
-        next(t, n),
-    )
 }
