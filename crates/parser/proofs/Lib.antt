@@ -1,0 +1,3 @@
+-- The laws of the rules, one step after the other.
+pub mod Laws
+pub mod Types
