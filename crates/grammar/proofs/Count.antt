@@ -11,11 +11,11 @@ use borrow.Author.Tests.{eqb-true}
 use Rattle.wire.specs.Pick.{pick}
 use Rattle.token.specs.Token.{Token, endOf}
 use Rattle.token.specs.Kind.{kDeleted, kImport, kInteger, kRightCurly}
-use Rattle.grammar.specs.Tree.{FieldTree, DeletedPart, HeadTree, DeclarationTree, ImportTree, each, isOpening}
+use Rattle.grammar.specs.Tree.{FieldTree, DeletedPart, HeadTree, DeclarationTree, ImportTree, each}
 use Rattle.grammar.specs.Error.{Error, errorAt, errorOver}
 use Rattle.grammar.specs.Meaning.{isNameless, importOf}
 use Rattle.grammar.specs.Condition.{anyOf, sameImport, sameIndex, importErrors, indexErrors}
-use Rattle.grammar.specs.Reading.{Result, ok, fail, is, consume, front, skip, parseField, Reading, isEnd, parseFields, parseDeleted, parseHead, parseRight, parseDeclaration, parseDeclarations, parseImport, parseImports, parseOpening, parseSchema}
+use Rattle.grammar.specs.Reading.{Result, ok, fail, is, consume, front, skip, parseField, Reading, isEnd, parseFields, parseDeleted, parseHead, parseRight, parseDeclaration, parseDeclarations, parseImport, parseImports, isOpening, parseOpening, parseSchema}
 use Rattle.grammar.proofs.Rules.{front-sound}
 use Rattle.grammar.proofs.Declarations.{head-sound}
 use Rattle.grammar.proofs.Imports.{import-sound}

@@ -8,8 +8,12 @@ pub mod Declarations
 pub mod Imports
 pub mod NameOrder
 pub mod Conditions
+pub mod Opening
 pub mod Schemas
 pub mod Outcomes
 pub mod Left
 pub mod Fuel
 pub mod Count
+pub mod Sorting
+pub mod Ranges
+pub mod Examples

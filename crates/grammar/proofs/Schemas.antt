@@ -1,39 +1,23 @@
 -- The schema: what is read without an error is a derivation, and every tree of the grammar is read, with just the errors of its conditions.
 use Prim.Native.Nat.{ℕ}
 use mathlib.Core.Path.{_≡_, refl, ap, sym, _∙_, subst}
-use mathlib.Core.Bool.{Bool, true, false}
+use mathlib.Core.Bool.{true}
 use mathlib.Core.Option.{Option, none, some}
 use mathlib.Core.List.{List, [], _∷_, _++_}
 use native.Mathlib.Omega.{arith}
 use lib.ListN.{length}
 use Rattle.token.specs.Token.{Token, endOf}
 use Rattle.token.specs.Kind.{isKeyword, kAs, kComment, kImport}
-use Rattle.grammar.specs.Tree.{DeclarationTree, SchemaTree, optionally, each, yImport, yDeclaration, yBody, yield, Is, IfAny, All, WfHead, WfDeclaration, isOpening, WfOpening, Wf}
+use Rattle.grammar.specs.Tree.{DeclarationTree, SchemaTree, optionally, each, yImport, yDeclaration, yBody, yield, Is, IfAny, All, WfHead, WfDeclaration, WfOpening, Wf}
 use Rattle.grammar.specs.Error.{Error, kindAt}
 use Rattle.grammar.specs.Condition.{conditionErrors, Good}
 use Rattle.grammar.specs.Derivation.{Derives}
 use Rattle.grammar.specs.Reading.{is, Reading, parseImports, parseDeclarations, parseOpening, parseEnd, parseSchema}
 use Rattle.grammar.proofs.Rules.{Read, cons≢nil, both-nil, not-kind}
+use Rattle.grammar.proofs.Opening.{opening-sound, opening-complete}
 use Rattle.grammar.proofs.Declarations.{Declared, declarations-sound, declarations-complete}
 use Rattle.grammar.proofs.Imports.{Imported, imports-sound, Ends, imports-complete}
 use Rattle.grammar.proofs.Conditions.{conditions-hold}
-
-pub record Opened (ts : List Token) (p : Reading (Option Token)) : Type 0 where
-  pub tokens : ts ≡ optionally _∷_ (p .value) (p .rest)
-  pub wf : WfOpening (p .value) (p .rest)
-
-opening-sound : (ts : List Token) → Opened ts (parseOpening ts)
-opening-sound [] = record { tokens = refl; wf = refl }
-opening-sound (t ∷ ts) = go (isOpening (t ∷ ts)) refl
-  where
-    go : (b : Bool) → isOpening (t ∷ ts) ≡ b → Opened (t ∷ ts) (parseOpening (t ∷ ts))
-    go true e = rw (e, parseOpening) (record { tokens = refl; wf = e })
-    go false e = rw (e, parseOpening) (record { tokens = refl; wf = e })
-
-opening-complete : (c : Option Token) (r : List Token) → WfOpening c r → parseOpening (optionally _∷_ c r) ≡ record { errors = []; value = c; rest = r }
-opening-complete none [] w = refl
-opening-complete none (t ∷ ts) w = rw (w, parseOpening)
-opening-complete (some c) r w = rw (w, parseOpening)
 
 end-none : (es : List Error) (ts : List Token) → parseEnd es ts ≡ [] → (es ≡ []) × (ts ≡ [])
 end-none [] [] h = (refl, refl)

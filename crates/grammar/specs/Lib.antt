@@ -7,3 +7,4 @@ pub mod Error
 pub mod Condition
 pub mod Derivation
 pub mod Reading
+pub mod Quoted

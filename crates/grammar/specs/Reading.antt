@@ -1,15 +1,15 @@
 -- Reading with recovery, as document 01 ("Errors collected") and parser.rs say it, from the list of remaining tokens into derivation trees.
-use Prim.Native.Nat.{ℕ, zero, suc}
-use mathlib.Core.Bool.{Bool, true, false, _||_, not}
+use Prim.Native.Nat.{ℕ, zero, suc, _+_}
+use mathlib.Core.Bool.{Bool, true, false, _||_, _&&_, not}
 use mathlib.Core.Option.{Option, none, some}
 use mathlib.Core.List.{List, [], _∷_, _++_}
-use lib.Dec.{eqb}
+use lib.Dec.{eqb, ltb}
 use lib.ListN.{length}
 use Rattle.wire.specs.Pick.{pick}
 use Rattle.token.specs.Token.{Token, endOf}
 use Rattle.token.specs.Kind.{isPlain, isRule, isKeyword, kAs, kColon, kComment, kDeleted, kDot, kEquals, kIdentifier, kImport, kInteger, kLeftCurly, kLeftSquare, kPath, kRightCurly, kRightSquare, kStruct}
 use Rattle.schema.specs.Ast.{Schema}
-use Rattle.grammar.specs.Tree.{TypeTree, array, plain, single, dotted, TypePart, FieldTree, DeletedPart, HeadTree, DeclarationTree, AliasPart, ImportTree, SchemaTree, isOpening}
+use Rattle.grammar.specs.Tree.{TypeTree, array, plain, single, dotted, TypePart, FieldTree, DeletedPart, HeadTree, DeclarationTree, AliasPart, ImportTree, SchemaTree}
 use Rattle.grammar.specs.Error.{Error, errorAt, kindAt}
 use Rattle.grammar.specs.Condition.{importErrors, indexErrors}
 use Rattle.grammar.specs.Meaning.{schemaOf}
@@ -222,6 +222,13 @@ parseImports (suc k) end before (t ∷ ts) =
     ]
 
 -- The schema.
+
+-- a Comment as first token, unless the next is `struct` or `choice` and near
+abbrev pub isOpening : List Token → Bool
+isOpening [] = false
+isOpening (c ∷ []) = eqb (c .kind) kComment
+isOpening (c ∷ t ∷ ts) = eqb (c .kind) kComment && (not (isKeyword (t .kind)) || ltb (c .end + 1) (t .start))
+
 abbrev pub parseOpening : List Token → Reading (Option Token)
 parseOpening [] = record { errors = []; value = none; rest = [] }
 parseOpening (t ∷ ts) =

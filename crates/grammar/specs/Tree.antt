@@ -1,11 +1,10 @@
 -- Document 01, "The grammar", as derivation trees: what stands where (the types), the tokens in order (the yields), their kinds (Wf).
 -- Nothing here speaks of a parser.
-use Prim.Native.Nat.{ℕ, _+_}
+use Prim.Native.Nat.{ℕ, _+_, _≤_}
 use mathlib.Core.Path.{_≡_}
-use mathlib.Core.Bool.{Bool, true, false, _&&_, not}
+use mathlib.Core.Bool.{Bool, true}
 use mathlib.Core.Option.{Option, none, some}
 use mathlib.Core.List.{List, [], _∷_}
-use lib.Dec.{eqb, leb}
 use Rattle.token.specs.Token.{Token}
 use Rattle.token.specs.Kind.{isPlain, isRule, isKeyword, kAs, kColon, kComment, kDeleted, kDot, kEquals, kIdentifier, kImport, kInteger, kLeftCurly, kLeftSquare, kPath, kRightCurly, kRightSquare}
 
@@ -167,19 +166,16 @@ pub record WfImport (i : ImportTree) : Type 0 where
   pub path : Is kPath (i .path)
   pub alias : IfAny WfAlias (i .alias)
 
--- the comment c belongs to the token after it: that is `struct` or `choice`, and starts at c's end + 1 or before
-abbrev pub isAttached : Token → List Token → Bool
-isAttached c [] = false
-isAttached c (t ∷ ts) = isKeyword (t .kind) && leb (t .start) (c .end + 1)
+-- the token after the comment c is `struct` or `choice`, and starts at c's end + 1 or before
+abbrev pub Attached : Token → List Token → Type 0
+Attached c [] = ⊥
+Attached c (t ∷ ts) = Passes isKeyword t × (t .start ≤ c .end + 1)
 
--- a Comment as first token is the schema's, unless it belongs to the token after it
-abbrev pub isOpening : List Token → Bool
-isOpening [] = false
-isOpening (t ∷ ts) = eqb (t .kind) kComment && not (isAttached t ts)
-
+-- a Comment as first token is the schema's, unless it is so attached; then it is the declaration's
 abbrev pub WfOpening : Option Token → List Token → Type 0
-WfOpening none rest = isOpening rest ≡ false
-WfOpening (some c) rest = isOpening (c ∷ rest) ≡ true
+WfOpening (some c) rest = Is kComment c × ¬ (Attached c rest)
+WfOpening none [] = Unit {0}
+WfOpening none (t ∷ ts) = Is kComment t → Attached t ts
 
 pub record Wf (s : SchemaTree) : Type 0 where
   pub opening : WfOpening (s .comment) (yBody s)
