@@ -4,3 +4,4 @@ pub mod Token
 pub mod Payload
 pub mod Table
 pub mod Checked
+pub mod Places

@@ -4,10 +4,13 @@ ghost use Prim.Native.Nat.{_+_, _≤_, _<_};
 ghost use mathlib.Core.Bool.{_&&_};
 ghost use lib.Dec.{leb};
 ghost use lib.ListN.{length, drop};
+ghost use Rattle.wire.specs.Le.{leNumber};
 ghost use Rattle.identifier.specs.Byte.{within, isPrintable};
+ghost use Rattle.token.specs.Kind.{kInteger};
 ghost use Rattle.token.specs.Payload.{isNameStart, isNameByte, isPathByte, isIdentifier, isPath, isParagraph, isComment, isPayload};
 ghost use Rattle.token.specs.Table.{isWhole, rowAfter, faultOf};
 ghost use Rattle.token.specs.Checked.{checked};
+ghost use Rattle.token.specs.Places.{tokAt, nextAt, Wf};
 
 pub const COMMENT: u16 = 7;
 
@@ -244,4 +247,48 @@ pub fn check(t: &[u8]) -> Checked
         at += wire::u16_at(bs, 0) as usize;
     }
     Checked::Fine(count, last)
+}
+
+// The walk over a table that passed the check: what stands at a place, and the place after it.
+pub fn kind_at(t: &[u8], at: usize) -> u16
+    requires { ⌜ (Wf (now t) at) × (at < length (now t)) ⌝ }
+    ensures { λ r. ⌜ r ≡ tokAt (now (t .entry)) at .kind ⌝ }
+{
+    wire::u16_at(t, at + 2)
+}
+
+pub fn start_at(t: &[u8], at: usize) -> u32
+    requires { ⌜ (Wf (now t) at) × (at < length (now t)) ⌝ }
+    ensures { λ r. ⌜ r ≡ tokAt (now (t .entry)) at .start ⌝ }
+{
+    wire::u32_at(t, at + 4)
+}
+
+pub fn end_at(t: &[u8], at: usize) -> u32
+    requires { ⌜ (Wf (now t) at) × (at < length (now t)) ⌝ }
+    ensures { λ r. ⌜ r ≡ tokAt (now (t .entry)) at .end ⌝ }
+{
+    wire::u32_at(t, at + 8)
+}
+
+pub fn payload_at(t: &[u8], at: usize) -> &[u8]
+    requires { ⌜ (Wf (now t) at) × (at < length (now t)) ⌝ }
+    ensures { λ r. ⌜ now r ≡ tokAt (now (t .entry)) at .payload ⌝ }
+{
+    let size = wire::u16_at(t, at) as usize;
+    &t[at + 12..at + size]
+}
+
+pub fn integer_at(t: &[u8], at: usize) -> u64
+    requires { ⌜ (Wf (now t) at) × (at < length (now t)) × (tokAt (now t) at .kind ≡ kInteger) ⌝ }
+    ensures { λ r. ⌜ r ≡ leNumber (tokAt (now (t .entry)) at .payload) ⌝ }
+{
+    wire::u64_at(t, at + 12)
+}
+
+pub fn next_at(t: &[u8], at: usize) -> usize
+    requires { ⌜ (Wf (now t) at) × (at < length (now t)) ⌝ }
+    ensures { λ r. ⌜ r ≡ nextAt (now (t .entry)) at ⌝ }
+{
+    at + wire::u16_at(t, at) as usize
 }
