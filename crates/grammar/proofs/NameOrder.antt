@@ -103,9 +103,9 @@ before-less a b h = go (orderOf (snakeOf a) (snakeOf b)) refl
     go Equal e = absurd (true≢false (sym h ∙ ap isLess e))
     go Greater e = absurd (true≢false (sym h ∙ ap isLess e))
 
-pub before-irreflexive : (a : Bytes) → isBefore a a ≡ false
+pub before-irreflexive : (a b : Bytes) → snakeOf a ≡ snakeOf b → isBefore a b ≡ false
 unfolding isBefore nameOrder
-before-irreflexive a = rw (order-refl (snakeOf a))
+before-irreflexive a b e = rw (e, order-refl (snakeOf b))
 
 pub before-trans : (a b c : Bytes) → isBefore a b ≡ true → isBefore b c ≡ true → isBefore a c ≡ true
 unfolding isBefore nameOrder
