@@ -56,12 +56,12 @@ module _ {p : Bytes} {gap : Bool} {i : ℕ} {r : Bool} (s : Spacing p gap i r) w
   pub spaced-end : length p ≤ i → not gap ≡ r
   spaced-end h = rw (drop-of-length-le p h) at (s .left)
 
-paragraphs-none : (n : ℕ) → areParagraphs n [] ≡ true
+pub paragraphs-none : (n : ℕ) → areParagraphs n [] ≡ true
 unfolding areParagraphs
 paragraphs-none zero = refl
 paragraphs-none (suc n) = refl
 
-paragraphs-step : (n : ℕ) (bs : Bytes) → (n ≡ 0 → ⊥) → 0 < length bs
+pub paragraphs-step : (n : ℕ) (bs : Bytes) → (n ≡ 0 → ⊥) → 0 < length bs
     → areParagraphs n bs ≡ (atLeast 2 bs && (atLeast (2 + u16At bs 0) bs && (isParagraph (paragraphOf bs) && areParagraphs (n - 1) (afterParagraph bs))))
 unfolding areParagraphs
 paragraphs-step zero bs e h = absurd (e refl)
