@@ -3,4 +3,5 @@ pub mod Laws
 pub mod Records
 pub mod Paragraphs
 pub mod Walk
+pub mod Encode
 pub mod Cases

@@ -30,13 +30,13 @@ pub le-again : (k : ℕ) (bs : Bytes) → AllBytes bs → k ≤ length bs → le
 le-again k bs h l = rw (length-take-le k bs l) at (leBytes-leNumber (take k bs) (all-take k bs h))
 
 -- the first paragraph lies whole in these bytes
-record Page (n : ℕ) (bs : Bytes) : Type 0 where
-  head : 2 ≤ length bs
-  tail : 2 + u16At bs 0 ≤ length bs
-  first : isParagraph (paragraphOf bs) ≡ true
-  rest : areParagraphs n (afterParagraph bs) ≡ true
+pub record Page (n : ℕ) (bs : Bytes) : Type 0 where
+  pub head : 2 ≤ length bs
+  pub tail : 2 + u16At bs 0 ≤ length bs
+  pub first : isParagraph (paragraphOf bs) ≡ true
+  pub rest : areParagraphs n (afterParagraph bs) ≡ true
 
-page : (n b : ℕ) (bs : Bytes) → areParagraphs (suc n) (b ∷ bs) ≡ true → Page n (b ∷ bs)
+pub page : (n b : ℕ) (bs : Bytes) → areParagraphs (suc n) (b ∷ bs) ≡ true → Page n (b ∷ bs)
 unfolding areParagraphs
 page n b bs e =
     let x = b ∷ bs in
@@ -118,3 +118,17 @@ paragraphs-found (suc n) (p ∷ ps) l e =
     let k : length p < 65536 = omega (arith, paragraph-small p (q .0)) in
     let i = paragraphs-found n ps (omega arith) (q .1) in
     (page-are p (paragraphBytes ps) k n ∙ rw (q .0, i .0), page-in p (paragraphBytes ps) k n ∙ rw (i .1))
+
+pub paragraphs-small : (n : ℕ) (bs : Bytes) → areParagraphs n bs ≡ true → length bs ≤ n * 1026
+unfolding areParagraphs paragraphOf afterParagraph
+paragraphs-small zero [] e = omega arith
+paragraphs-small (suc n) [] e = omega arith
+paragraphs-small zero (b ∷ bs) e = let z : _≡_ {A = ℕ} 0 1 = cc in absurd (omega arith)
+paragraphs-small (suc n) (b ∷ bs) e =
+    let g = page n b bs e in
+    let i = paragraphs-small n (afterParagraph (b ∷ bs)) (g .rest) in
+    let k = paragraph-length g in
+    let s = paragraph-small (paragraphOf (b ∷ bs)) (g .first) in
+    let d = length-drop (u16At (b ∷ bs) 0) (drop 2 (b ∷ bs)) in
+    let d′ = length-drop 2 (b ∷ bs) in
+    omega arith

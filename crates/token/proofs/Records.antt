@@ -76,7 +76,7 @@ pub record Good (last row : ℕ) (bs : Bytes) : Type 0 where
   pub sound : Sound last row (tokenOf bs)
 
 -- both bounds of a test on two
-bounds : (a x b y : ℕ) → (leb a x && leb b y) ≡ true → (a ≤ x) × (b ≤ y)
+pub bounds : (a x b y : ℕ) → (leb a x && leb b y) ≡ true → (a ≤ x) × (b ≤ y)
 bounds a x b y e = let p = and-eq-true-iff (leb a x) (leb b y) .0 e in (leb-true a x (p .0), leb-true b y (p .1))
 
 pub good : (last row : ℕ) (bs : Bytes) → faultOf last row bs ≡ 0 → Good last row bs
