@@ -1,30 +1,30 @@
 -- A table and its tokens determine each other: a table decodes to tokens exactly where these fit and are encoded in it.
-use Prim.Native.Nat.{ℕ, zero, suc, _+_, _*_, _-_, _^_, _≤_, _<_}
-use mathlib.Core.Path.{_≡_, refl, sym, ap, _∙_}
-use mathlib.Core.Bool.{Bool, true, false, not, _&&_, and-eq-true-iff}
+use borrow.Author.Tests.{leb-true, eqb-true, le-leb, le-ltb}
+use Prim.Native.Nat.{ℕ, zero, suc, _+_, _-_, _≤_, _<_}
+use mathlib.Core.Path.{_≡_, refl, _∙_}
+use mathlib.Core.Bool.{Bool, true, false, and-eq-true-iff}
 use mathlib.Core.List.{List, [], _∷_, _++_, append-assoc}
 use native.Mathlib.Omega.{arith}
 use native.Mathlib.Nat.{add-sub-cancel-left}
 use native.Mathlib.Numerals.{sub-one}
-use borrow.Author.Tests.{leb-true, eqb-true, le-leb, le-ltb}
-use lib.Dec.{leb, ltb, eqb}
-use lib.ListN.{length, getD, take, drop, take-append-drop, length-take, length-drop, length-append}
+use lib.Dec.{leb, eqb}
+use lib.ListN.{length, take, drop, take-append-drop, length-drop, length-append}
 use lib.Seq.{length-take-le, take-at, drop-at, take-add, drop-drop}
 use Rattle.wire.specs.Bytes.{Bytes}
-use Rattle.wire.specs.Le.{leBytes, leNumber, leAt, u16At, u32At}
+use Rattle.wire.specs.Le.{leBytes, leAt, u16At, u32At}
 use Rattle.wire.specs.Pick.{pick}
 use Rattle.wire.specs.Record.{headBytes, recordBytes}
-use Rattle.wire.proofs.Numbers.{AllBytes, leBytes-length, leBytes-leNumber, leAt-leBytes}
+use Rattle.wire.proofs.Numbers.{AllBytes, leBytes-length, leAt-leBytes}
 use Rattle.identifier.specs.Byte.{within}
 use Rattle.token.specs.Kind.{kIdentifier, kPath, kInteger, kComment}
 use Rattle.token.specs.Token.{Token, endOf}
-use Rattle.token.specs.Payload.{all, isNameStart, isNameByte, isPathByte, isIdentifier, isPath, isInteger, areParagraphs, isComment, isPayload}
-use Rattle.token.specs.Table.{sizeOf, tokenOf, isWhole, isOrdered, rowAfter, faultOf, Decoded, refused, tokens, addToken, decodeFrom, decode, encodeTokens}
+use Rattle.token.specs.Payload.{isIdentifier, isPath, isInteger, isComment, isPayload}
+use Rattle.token.specs.Table.{sizeOf, tokenOf, isWhole, isOrdered, faultOf, tokens, decodeFrom, decode, encodeTokens}
 use Rattle.token.specs.Fit.{Sound, Fit}
 use Rattle.token.specs.Fit.Fit.{none, more}
-use Rattle.token.proofs.Records.{Fits, Good, bounds, whole-is, decode-end, decode-next}
-use Rattle.token.proofs.Paragraphs.{all-drop, le-again, Page, page, paragraphs-small}
-use Rattle.token.proofs.Walk.{Opened, opened, fit, decode-small}
+use Rattle.token.proofs.Records.{Fits, bounds, whole-is, decode-end, decode-next}
+use Rattle.token.proofs.Paragraphs.{all-drop, le-again, paragraphs-small}
+use Rattle.token.proofs.Walk.{opened, fit, decode-small}
 
 pub head-length : (size kind start end : ℕ) → length (headBytes size kind start end) ≡ 12
 unfolding headBytes

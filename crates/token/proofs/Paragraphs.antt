@@ -1,18 +1,18 @@
 -- A Comment's payload and its paragraphs determine each other.
-use Prim.Native.Nat.{ℕ, zero, suc, _+_, _*_, _-_, _^_, _≤_, _<_}
-use mathlib.Core.Path.{_≡_, refl, sym, ap, _∙_}
-use mathlib.Core.Bool.{Bool, true, false, _&&_, and-eq-true-iff}
+use borrow.Author.Tests.{leb-true, le-leb}
+use Prim.Native.Nat.{ℕ, zero, suc, _+_, _*_, _≤_, _<_}
+use mathlib.Core.Path.{_≡_, refl, sym, _∙_}
+use mathlib.Core.Bool.{true, _&&_, and-eq-true-iff}
 use mathlib.Core.List.{List, [], _∷_, _++_, append-assoc}
 use native.Mathlib.Omega.{arith}
 use native.Mathlib.Numerals.{sub-one}
-use borrow.Author.Tests.{leb-true, le-leb}
 use lib.Dec.{leb}
 use lib.ListN.{length, take, drop, take-append-drop, length-drop, length-append}
 use lib.Seq.{length-take-le, take-at, drop-at}
 use Rattle.wire.specs.Bytes.{Bytes}
 use Rattle.wire.specs.Le.{leBytes, leNumber, leAt, u16At}
 use Rattle.wire.proofs.Numbers.{AllBytes, leBytes-length, leBytes-leNumber, leAt-leBytes}
-use Rattle.token.specs.Payload.{atLeast, isSpaced, isParagraph, paragraphOf, afterParagraph, areParagraphs, paragraphsIn, paragraphsOf, paragraphBytes, allParagraphs}
+use Rattle.token.specs.Payload.{atLeast, isSpaced, isParagraph, paragraphOf, afterParagraph, areParagraphs, paragraphsIn, paragraphBytes, allParagraphs}
 use Rattle.token.proofs.Laws.{atLeast-length, paragraphs-none, paragraphs-step}
 
 pub all-take : (n : ℕ) (bs : Bytes) → AllBytes bs → AllBytes (take n bs)

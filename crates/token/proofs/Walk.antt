@@ -1,13 +1,13 @@
 -- Places and tokens: a step from place to place is the tail of the list of tokens, and keeps what the check has shown.
+use borrow.Author.Tests.{ltb-false, eqb-true}
 use Prim.Native.Nat.{ℕ, zero, suc, _+_, _-_, _≤_, _<_, max}
 use mathlib.Core.Path.{_≡_, refl, sym, ap, _∙_}
 use mathlib.Core.Bool.{Bool, true, false}
 use mathlib.Core.List.{List, [], _∷_}
 use native.Mathlib.Omega.{arith}
 use native.Mathlib.Numerals.{sub-one}
-use borrow.Author.Tests.{ltb-false, eqb-true}
 use lib.Dec.{ltb, eqb}
-use lib.ListN.{length, take, drop, drop-of-length-le, length-drop}
+use lib.ListN.{length, take, drop, length-drop}
 use lib.Seq.{drop-drop, length-take-le}
 use Rattle.wire.specs.Bytes.{Bytes}
 use Rattle.wire.specs.Le.{leNumber, leAt, u16At, u64At}
@@ -16,13 +16,11 @@ use Rattle.token.specs.Kind.{kInteger, kLeftSquare}
 use Rattle.token.specs.Payload.{isInteger, isPayload}
 use Rattle.token.specs.Token.{Token, endOf}
 use Rattle.token.specs.Table.{sizeOf, tokenOf, rowAfter, faultOf, Decoded, refused, tokens, addToken, decodeFrom, decode}
-use Rattle.token.specs.Fit.{Sound, Fit}
+use Rattle.token.specs.Fit.{Fit}
 use Rattle.token.specs.Fit.Fit.{none, more}
 use Rattle.token.specs.Checked.{answerOf, checked}
 use Rattle.token.specs.Places.{tokAt, nextAt, tokensIn, tokensFrom, Wf}
-use Rattle.token.specs.declared.Checked.{Checked}
 use Rattle.token.specs.declared.Checked.the-variants.{Refused, Fine}
-use Rattle.token.proofs.Laws.{rest-step}
 use Rattle.token.proofs.Records.{Fits, Good, good, decode-end, decode-full, decode-bad, decode-next}
 
 -- a number in a record, read from the table
