@@ -63,7 +63,6 @@ cases =
     ∷ bad 1 0 (replicate 65537 0)
     ∷ bad 2 0 (replicate 65536 0)
     -- R6
-    ∷ good (times 4096 (ranged 0 0))
     ∷ bad 6 49152 (times 4096 (ranged 0 0) ++ 0 ∷ [])
     -- R2
     ∷ bad 2 0 (take 11 (empty kAs))
