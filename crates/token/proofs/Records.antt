@@ -1,26 +1,24 @@
 -- The check, record by record.
-use Prim.Native.Nat.{ℕ, zero, suc, _+_, _-_, _≤_, _<_}
-use mathlib.Core.Path.{_≡_, refl, sym, ap, _∙_}
-use mathlib.Core.Bool.{Bool, true, false, not, _&&_, and-eq-true-iff}
-use mathlib.Core.List.{List, [], _∷_}
-use native.Mathlib.Omega.{arith}
-use native.Mathlib.Numerals.{add-one, sub-one}
-use native.Mathlib.Nat.{zero-add, add-zero}
 use borrow.Author.Tests.{leb-true, ltb-false, not-false, lt-ltb, le-ltb}
-use lib.Dec.{leb, ltb, eqb}
-use lib.ListN.{length, getD, take, drop, drop-of-length-le, length-drop}
-use lib.Seq.{drop-cons, drop-drop}
+use Prim.Native.Nat.{ℕ, zero, suc, _+_, _-_, _≤_, _<_}
+use mathlib.Core.Path.{_≡_, refl, sym, _∙_}
+use mathlib.Core.Bool.{Bool, true, false, _&&_, and-eq-true-iff}
+use mathlib.Core.List.{[], _∷_}
+use native.Mathlib.Omega.{arith}
+use native.Mathlib.Numerals.{sub-one}
+use native.Mathlib.Nat.{zero-add, add-zero}
+use lib.Dec.{leb}
+use lib.ListN.{length, drop, drop-of-length-le, length-drop}
+use lib.Seq.{drop-drop}
 use Rattle.wire.specs.Bytes.{Bytes}
-use Rattle.wire.specs.Le.{leAt, u16At}
 use Rattle.wire.specs.Pick.{pick}
-use Rattle.identifier.specs.Byte.{within}
 use Rattle.token.specs.Token.{Token, endOf}
-use Rattle.token.specs.Payload.{isPayload}
 use Rattle.token.specs.Table.{sizeOf, tokenOf, isWhole, isOrdered, rowAfter, faultOf, Decoded, refused, tokens, addToken, decodeFrom, decode}
+use Rattle.token.specs.Fit.{Sound}
 use Rattle.token.specs.Checked.{answerOf, checked}
 use Rattle.token.specs.declared.Checked.{Checked}
 use Rattle.token.specs.declared.Checked.the-variants.{Refused, Fine}
-use Rattle.token.proofs.Laws.{atLeast-length, rest-step}
+use Rattle.token.proofs.Laws.{atLeast-length}
 
 pub whole-is : (bs : Bytes) → isWhole bs ≡ (leb 12 (length bs) && (leb 12 (sizeOf bs) && leb (sizeOf bs) (length bs)))
 unfolding isWhole
@@ -72,13 +70,10 @@ pick-zero false k y e = (refl, e)
 -- the record at the front of these bytes is good, after one that ends at `last` and `row` LeftSquares
 pub record Good (last row : ℕ) (bs : Bytes) : Type 0 where
   pub fits : Fits bs
-  pub known : (1 ≤ tokenOf bs .kind) × (tokenOf bs .kind ≤ 25)
-  pub payload : isPayload (tokenOf bs .kind) (tokenOf bs .payload) ≡ true
-  pub order : (last ≤ tokenOf bs .start) × (tokenOf bs .start ≤ tokenOf bs .end)
-  pub shallow : rowAfter row (tokenOf bs .kind) ≤ 64
+  pub sound : Sound last row (tokenOf bs)
 
 -- both bounds of a test on two
-bounds : (a x b y : ℕ) → (leb a x && leb b y) ≡ true → (a ≤ x) × (b ≤ y)
+pub bounds : (a x b y : ℕ) → (leb a x && leb b y) ≡ true → (a ≤ x) × (b ≤ y)
 bounds a x b y e = let p = and-eq-true-iff (leb a x) (leb b y) .0 e in (leb-true a x (p .0), leb-true b y (p .1))
 
 pub good : (last row : ℕ) (bs : Bytes) → faultOf last row bs ≡ 0 → Good last row bs
@@ -91,10 +86,12 @@ good last row bs e =
     let s = pick-zero _ 6 _ (o .1) in
     record {
       fits = fits bs (not-false _ (w .0));
-      known = bounds _ _ _ _ (not-false _ (k .0));
-      payload = not-false _ (p .0);
-      order = bounds _ _ _ _ (not-false _ (o .0));
-      shallow = ltb-false 64 _ (s .0);
+      sound = record {
+        known = bounds _ _ _ _ (not-false _ (k .0));
+        payload = not-false _ (p .0);
+        order = bounds _ _ _ _ (not-false _ (o .0));
+        shallow = ltb-false 64 _ (s .0);
+      };
     }
 
 -- an answer of which `count` tokens are known, the last of them ending at `last`
@@ -154,6 +151,6 @@ module _ {t : Bytes} {at count last row : ℕ} {r : Checked} (s : Checking t at 
           record {
             inside = omega arith;
             few = omega (arith, s .few, m);
-            shallow = g .shallow;
+            shallow = g .sound .shallow;
             left = rw n (rw (decode-next at last row (4096 - count) (drop at t) left-some rest-some (sym e ∙ z), drop-drop (sizeOf (drop at t)) at t, onto-add) at (s .left));
           }

@@ -1,50 +1,42 @@
 // Token tables: the check of document 01 (R1 to R7), and the walk over a table that passed it.
 ghost use mathlib.Core.Path.{_≡_};
 ghost use Prim.Native.Nat.{_+_, _≤_, _<_};
-ghost use mathlib.Core.Bool.{_&&_};
+ghost use mathlib.Core.Bool.{true, _&&_};
 ghost use lib.Dec.{leb};
 ghost use lib.ListN.{length, drop};
 ghost use Rattle.wire.specs.Le.{leNumber};
 ghost use Rattle.identifier.specs.Byte.{within, isPrintable};
 ghost use Rattle.token.specs.Kind.{kInteger};
-ghost use Rattle.token.specs.Payload.{isNameStart, isNameByte, isPathByte, isIdentifier, isPath, isParagraph, isComment, isPayload};
+ghost use Rattle.token.specs.Payload.{isNameStart, isNameByte, isPathByte, isIdentifier, isPath, isParagraph, isComment, isPayload, paragraphsOf};
 ghost use Rattle.token.specs.Table.{isWhole, rowAfter, faultOf};
 ghost use Rattle.token.specs.Checked.{checked};
 ghost use Rattle.token.specs.Places.{tokAt, nextAt, Wf};
 
-pub const COMMENT: u16 = 7;
-
-pub const IDENTIFIER: u16 = 12;
-
-pub const INTEGER: u16 = 14;
-
-pub const LEFT_SQUARE: u16 = 16;
-
-pub const PATH: u16 = 18;
+pub mod kind;
 
 fn is_name_start(b: u8) -> bool
     ensures { λ r. ⌜ r ≡ isNameStart b ⌝ }
 {
-    (((65 <= b) & (b <= 90)) | ((97 <= b) & (b <= 122))) | (b == 95)
+    (((b'A' <= b) & (b <= b'Z')) | ((b'a' <= b) & (b <= b'z'))) | (b == b'_')
 }
 
 fn is_name_byte(b: u8) -> bool
     ensures { λ r. ⌜ r ≡ isNameByte b ⌝ }
 {
-    (((65 <= b) & (b <= 90)) | ((97 <= b) & (b <= 122)))
-        | (((48 <= b) & (b <= 57)) | ((b == 95) | (b == 45)))
+    (((b'A' <= b) & (b <= b'Z')) | ((b'a' <= b) & (b <= b'z')))
+        | (((b'0' <= b) & (b <= b'9')) | ((b == b'_') | (b == b'-')))
 }
 
 fn is_printable(b: u8) -> bool
     ensures { λ r. ⌜ r ≡ isPrintable b ⌝ }
 {
-    (32 <= b) & (b <= 126)
+    (b' ' <= b) & (b <= b'~')
 }
 
 fn is_path_byte(b: u8) -> bool
     ensures { λ r. ⌜ r ≡ isPathByte b ⌝ }
 {
-    ((32 <= b) & (b <= 126)) & (b != 39)
+    ((b' ' <= b) & (b <= b'~')) & (b != b'\'')
 }
 
 fn is_identifier(p: &[u8]) -> bool
@@ -101,7 +93,7 @@ fn is_paragraph(p: &[u8]) -> bool
         if !is_printable(b) {
             return false;
         }
-        let space = b == 32;
+        let space = b == b' ';
         if gap & space {
             return false;
         }
@@ -142,16 +134,16 @@ fn is_comment(p: &[u8]) -> bool
 fn is_payload(kind: u16, p: &[u8]) -> bool
     ensures { λ r. ⌜ r ≡ isPayload kind (now (p .entry)) ⌝ }
 {
-    if kind == IDENTIFIER {
+    if kind == kind::IDENTIFIER {
         return is_identifier(p);
     }
-    if kind == PATH {
+    if kind == kind::PATH {
         return is_path(p);
     }
-    if kind == INTEGER {
+    if kind == kind::INTEGER {
         return p.len() == 8;
     }
-    if kind == COMMENT {
+    if kind == kind::COMMENT {
         return is_comment(p);
     }
     p.len() == 0
@@ -186,7 +178,7 @@ fn row_after(row: usize, kind: u16) -> usize
     requires { ⌜ row ≤ 64 ⌝ }
     ensures { λ r. ⌜ r ≡ rowAfter row kind ⌝ }
 {
-    if kind == LEFT_SQUARE {
+    if kind == kind::LEFT_SQUARE {
         return row + 1;
     }
     0
@@ -291,4 +283,18 @@ pub fn next_at(t: &[u8], at: usize) -> usize
     ensures { λ r. ⌜ r ≡ nextAt (now (t .entry)) at ⌝ }
 {
     at + wire::u16_at(t, at) as usize
+}
+
+// How many paragraphs a Comment's payload holds.
+pub fn paragraph_count(p: &[u8]) -> u16
+    requires { ⌜ isComment (now p) ≡ true ⌝ }
+    ensures { λ r. ⌜ r ≡ length (paragraphsOf (now (p .entry))) ⌝ }
+{
+    let mut count: u16 = 0;
+    let mut at = 0;
+    while at < p.len() {
+        count += 1;
+        at = at + 2 + wire::u16_at(p, at) as usize;
+    }
+    count
 }
