@@ -8,13 +8,13 @@ use mathlib.Core.Logic.{_⊎_, inl, inr}
 use borrow.Author.Tests.{eqb-true, eq-eqb}
 use Rattle.wire.specs.Bytes.{Bytes}
 use Rattle.wire.specs.Pick.{pick}
+use Rattle.identifier.proofs.Total.{same-snake, snake-same}
 use Rattle.token.specs.Token.{Token}
 use Rattle.grammar.specs.Tree.{All, DeletedPart, DeclarationTree, ImportTree, SchemaTree}
 use Rattle.grammar.specs.Meaning.{numberOf, deletedOf, isNameless, nameOf, importOf}
 use Rattle.grammar.specs.Error.{Error, errorOver}
 use Rattle.grammar.specs.Condition.{Distinct, anyOf, Named, keyOf, DeletedOnce, Good, sameImport, sameIndex, importErrors, indexErrors, importsErrors, deletedErrors, declarationsErrors, conditionErrors}
 use Rattle.grammar.proofs.Rules.{cons≢nil, both-nil}
-use Rattle.grammar.proofs.NameOrder.{same-name, name-same}
 
 -- each of ks differs from those before it and from those of seen
 pub record New {K : Type 0} (seen ks : List K) : Type 0 where
@@ -111,10 +111,10 @@ declarations-back (d ∷ ds) g = rw (deleted-back (d .deleted) (g .0)) (declarat
 
 -- import names
 import-key : (i j : ImportTree) → sameImport i j ≡ true → keyOf i ≡ keyOf j
-import-key i j e = same-name (nameOf i) (nameOf j) e
+import-key i j e = same-snake (nameOf i) (nameOf j) e
 
 key-import : (i j : ImportTree) → keyOf i ≡ keyOf j → sameImport i j ≡ true
-key-import i j e = name-same (nameOf i) (nameOf j) e
+key-import i j e = snake-same (nameOf i) (nameOf j) e
 
 imports-there : (before is : List ImportTree) → importsErrors before is ≡ [] → All Named is × New (map keyOf before) (map keyOf is)
 imports-there before [] h = (tt, new-nil (map keyOf before))

@@ -107,7 +107,7 @@ fields-left (suc k) end n ts l = go (isEnd ts) (parseField ts) refl refl (field-
         → ((us : List Token) → length us ≤ n → length (parseFields k end us .rest) ≤ n) → length (parseFields (suc k) end ts .rest) ≤ n
     go true m e p f ih = rw (e, parseFields) l
     go false (ok x r) e p f ih = rw (e, p, parseFields) (ih r (rw p at f))
-    go false (fail x r) e p f ih = rw (e, p, parseFields) (skip-left (λ q. not (is kRightCurly q)) n r (rw p at f))
+    go false (fail x r) e p f ih = rw (e, p, parseFields) (skip-left _ n r (rw p at f))
 
 pub deleted-left : (n : ℕ) (ts : List Token) → length ts ≤ n → length (parseDeleted ts .rest) ≤ n
 deleted-left n [] l = l

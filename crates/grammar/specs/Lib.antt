@@ -7,4 +7,5 @@ pub mod Error
 pub mod Condition
 pub mod Derivation
 pub mod Reading
+pub mod Answer
 pub mod Quoted
