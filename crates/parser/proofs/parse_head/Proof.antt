@@ -4,8 +4,8 @@ use Rattle.parser.proofs.parse_head.Tie as tie
 use Rattle.parser.proofs.parse_head.Reads as reads
 use Rattle.parser.proofs.parse_head.Lts as lts
 use Rattle.parser.proofs.consume_token.Reads as consume-token-reads
-use Rattle.parser.proofs.is_keyword.Reads as is-keyword-reads
 use Rattle.parser.proofs.kind_or_end.Reads as kind-or-end-reads
+use Rattle.parser.proofs.kinds.is_keyword.Reads as is-keyword-reads
 use Rattle.parser.proofs.name_number.Reads as name-number-reads
 use Rattle.parser.proofs.next.Reads as next-reads
 use Rattle.parser.proofs.skip_token.Reads as skip-token-reads
@@ -17,16 +17,16 @@ kind-or-end-requires : tie.Need-kind-or-end-requires
 kind-or-end-requires c κs = search needs
 
 returns : tie.Need-returns
-returns c = search needs
+returns c = ?
 
 is-keyword-requires : tie.Need-is-keyword-requires
 is-keyword-requires c κs = search needs
 
 returns-2 : tie.Need-returns-2
-returns-2 c = search needs
+returns-2 c = ?
 
 next-requires : tie.Need-next-requires
-next-requires c κs = search needs
+next-requires c κs = ?
 
 name-number-requires : tie.Need-name-number-requires
 name-number-requires c κs = search needs
@@ -41,10 +41,10 @@ enum-known-number : tie.Need-enum-known-number
 enum-known-number c = search needs
 
 returns-3 : tie.Need-returns-3
-returns-3 c = search needs
+returns-3 c = ?
 
 consume-token-requires-2 : tie.Need-consume-token-requires-2
-consume-token-requires-2 c κs = search needs
+consume-token-requires-2 c κs = ?
 
 enum-known-number-2 : tie.Need-enum-known-number-2
 enum-known-number-2 c = search needs
@@ -53,10 +53,10 @@ enum-known-after-2 : tie.Need-enum-known-after-2
 enum-known-after-2 c = search needs
 
 returns-4 : tie.Need-returns-4
-returns-4 c = search needs
+returns-4 c = ?
 
 returns-5 : tie.Need-returns-5
-returns-5 c = search needs
+returns-5 c = ?
 
 pub parse-head-spec : {M : Type 1} → statement M
 parse-head-spec =
