@@ -26,7 +26,7 @@ use Rattle.parser.specs.declared.Cursor.{Cursor}
 use Rattle.parser.specs.declared.TypePlaces.{TypePlaces}
 use Rattle.parser.specs.declared.TypeStep.{TypeStep}
 use Rattle.parser.specs.declared.TypeStep.the-variants.{Passed, Failed}
-use Rattle.parser.proofs.Laws.{none-left, then, stop, done}
+use Rattle.parser.proofs.Laws.{none-left, alike, then, stop, done}
 
 -- A dot, and one token more.
 pub no-dot : {k : ℕ} (ts : List Token) → k ≡ kindAt ts → (k ≡ kDot → ⊥) → false ≡ isDotted ts
@@ -47,13 +47,9 @@ dot {t} {c} {d} s e = rw (s .first) (go (ahead t d) refl)
         rw (k, e′)
 
 -- what one rule read, another that agrees with it here has read
-module _ (t : Bytes) (c : Cursor) (rule rule′ : List Token → Result TypeTree) (e : rule′ (ahead t c) ≡ rule (ahead t c)) where
-  reads-as : {out : List Token → Result TypeTree} {d : Cursor} → Reads t c rule out d → Reads t c rule′ out d
-  reads-as h = record { gives = e ∙ h .gives; wf = h .wf; onward = h .onward }
-
-  read-as : (r : TypeStep) → TypeRead t c rule r → TypeRead t c rule′ r
-  read-as (Passed p after) h = record { read = reads-as (h .read); stands = h .stands; opens = h .opens; end = h .end }
-  read-as (Failed number at) h = reads-as h
+read-as : (t : Bytes) (c : Cursor) (rule rule′ : List Token → Result TypeTree) → rule′ (ahead t c) ≡ rule (ahead t c) → (r : TypeStep) → TypeRead t c rule r → TypeRead t c rule′ r
+read-as t c rule rule′ e (Passed p after) h = record { read = alike rule rule′ e (h .read); stands = h .stands; opens = h .opens; end = h .end }
+read-as t c rule rule′ e (Failed number at) h = alike rule rule′ e h
 
 -- A base.
 module _ {t : Bytes} {c after : Cursor} where

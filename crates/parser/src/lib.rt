@@ -232,11 +232,10 @@ fn parse_type_part(t: &[u8], c: Cursor) -> PartStep
     requires { ⌜ Wf (now t) (c .at) ⌝ }
     ensures { λ r. ⌜ PartRead (now (t .entry)) c r ⌝ }
 {
-    let colon = skip_token(t, c, kind::COLON);
-    if !colon.there {
+    if kind_or_end(t, c) != kind::COLON {
         return PartStep::Passed(PartPlaces::Absent, c);
     }
-    match parse_type(t, colon.next) {
+    match parse_type(t, next(t, c)) {
         TypeStep::Passed(p, after) => PartStep::Passed(PartPlaces::Present(c.at, p), after),
         TypeStep::Failed(number, at) => PartStep::Failed(number, at),
     }
@@ -369,12 +368,11 @@ pub fn parse_import(t: &[u8], c: Cursor) -> ImportStep
     ensures { λ r. ⌜ ImportRead (now (t .entry)) c r ⌝ }
 {
     let path = next(t, c);
-    let end = match consume_token(t, path, kind::PATH, 6) {
+    let alias = match consume_token(t, path, kind::PATH, 6) {
         TokenStep::Passed(after) => after,
         TokenStep::Failed(number, at) => return ImportStep::Failed(number, at),
     };
-    let alias = skip_token(t, end, kind::AS);
-    if !alias.there {
+    if kind_or_end(t, alias) != kind::AS {
         return ImportStep::Passed(
             ImportPlaces {
                 first: c.at,
@@ -382,17 +380,18 @@ pub fn parse_import(t: &[u8], c: Cursor) -> ImportStep
                 aliased: false,
                 last: path.at,
             },
-            end,
+            alias,
         );
     }
-    match consume_token(t, alias.next, kind::IDENTIFIER, 7) {
+    let name = next(t, alias);
+    match consume_token(t, name, kind::IDENTIFIER, 7) {
         TokenStep::Failed(number, at) => ImportStep::Failed(number, at),
         TokenStep::Passed(after) => ImportStep::Passed(
             ImportPlaces {
                 first: c.at,
                 path: path.at,
                 aliased: true,
-                last: alias.next.at,
+                last: name.at,
             },
             after,
         ),
