@@ -1,3 +1,5 @@
+use Rattle.parser.proofs.Laws.{stop}
+use Rattle.parser.proofs.Types.{single}
 use borrow.Author.Needs.{needs}
 use Rattle.parser.proofs.parse_single.Statement.{statement}
 use Rattle.parser.proofs.parse_single.Tie as tie
@@ -19,10 +21,10 @@ enum-known-number : tie.Need-enum-known-number
 enum-known-number c = search needs
 
 returns : tie.Need-returns
-returns c = search needs
+returns c = rw (c .base-type .ensures) (single (rw (c .before .before .after .given .1) at (c .before .before .before .before .consume-token .ensures)))
 
 returns-2 : tie.Need-returns-2
-returns-2 c = search needs
+returns-2 c = stop _ (rw (c .before .number .given .1) at (c .before .before .before .consume-token .ensures))
 
 pub parse-single-spec : {M : Type 1} → statement M
 parse-single-spec =

@@ -1,0 +1,12 @@
+use mathlib.Core.Bool.{or-assoc}
+use borrow.Author.Needs.{needs}
+use Rattle.parser.proofs.kinds.is_plain.Statement.{statement}
+use Rattle.parser.proofs.kinds.is_plain.Tie as tie
+use Rattle.parser.proofs.kinds.is_plain.Reads as reads
+use Rattle.parser.proofs.kinds.is_plain.Lts as lts
+
+returns : tie.Need-returns
+returns c = simp or-assoc
+
+pub is-plain-spec : {M : Type 1} → statement M
+is-plain-spec = tie.close (tie.spec returns)
