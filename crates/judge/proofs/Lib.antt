@@ -1,0 +1,7 @@
+-- The laws of judging.
+pub mod Errors
+pub mod Fields
+pub mod Walks
+pub mod Sorting
+pub mod Indices
+pub mod Imports
