@@ -14,6 +14,9 @@ ghost use Rattle.token.specs.Places.{tokAt, nextAt, Wf};
 
 pub mod kind;
 
+// of a name or a path
+const LONGEST: usize = 128;
+
 fn is_name_start(b: u8) -> bool
     ensures { λ r. ⌜ r ≡ isNameStart b ⌝ }
 {
@@ -45,7 +48,7 @@ fn is_identifier(p: &[u8]) -> bool
     if p.len() < 1 {
         return false;
     }
-    if 128 < p.len() {
+    if LONGEST < p.len() {
         return false;
     }
     if !is_name_start(p[0]) {
@@ -64,7 +67,7 @@ fn is_identifier(p: &[u8]) -> bool
 fn is_path(p: &[u8]) -> bool
     ensures { λ r. ⌜ r ≡ isPath (now (p .entry)) ⌝ }
 {
-    if 128 < p.len() {
+    if LONGEST < p.len() {
         return false;
     }
     let mut i = 0;
