@@ -1,0 +1,3 @@
+-- The theorems and laws of the canonical text.
+pub mod Wrap
+pub mod Cases

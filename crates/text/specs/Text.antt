@@ -1,0 +1,137 @@
+-- Document 01, "Canonical text": what schema.rs writes of a schema, in its order. Each line ends in a newline.
+use Prim.Native.Nat.{ℕ, _-_}
+use mathlib.Core.Bool.{Bool, true, false, _||_, _&&_, not}
+use mathlib.Core.Option.{none, some}
+use mathlib.Core.List.{List, [], _∷_, _++_, flatMap}
+use lib.Dec.{eqb}
+use lib.ListN.{length}
+use Rattle.wire.specs.Bytes.{Bytes, bytes}
+use Rattle.wire.specs.Pick.{pick}
+use Rattle.wire.specs.Decimal.{decimal}
+use Rattle.identifier.specs.Forms.{snakeOf, pascalOf}
+use Rattle.identifier.specs.Order.{sameName}
+use Rattle.stem.specs.Stem.{stemOf}
+use Rattle.token.specs.Kind.{kBool, kBytes, kF64, kS64, kString, kU64, kUnit}
+use Rattle.schema.specs.Ast.{TypeVariant, array, plain, custom, Rule, required, asymmetric, optional, Field, Import, DeclarationVariant, struct, choice, Declaration, Schema}
+use Rattle.text.specs.Wrap.{wrap}
+
+abbrev pub isEmpty {ℓ} : {A : Type ℓ} → List A → Bool
+isEmpty [] = true
+isEmpty (x ∷ xs) = false
+
+abbrev pub newline : Bytes
+newline = bytes "\n"
+
+-- a blank line, where there is to be one
+unfoldable pub blank : Bool → Bytes
+blank b = pick b newline []
+
+-- the indentation of a field
+abbrev pub four : Bytes
+four = bytes "    "
+
+-- 79 columns, of which the indentation and `# ` take some
+abbrev pub widthAfter : Bytes → ℕ
+widthAfter indentation = 77 - length indentation
+
+unfoldable pub lineText : Bytes → Bytes → Bytes
+lineText indentation line = indentation ++ bytes "# " ++ line ++ newline
+
+unfoldable pub paragraphText : Bytes → Bytes → Bytes
+paragraphText indentation paragraph = flatMap (lineText indentation) (wrap (widthAfter indentation) paragraph)
+
+-- a paragraph that isn't the first stands after a line of `#`
+unfoldable pub laterParagraph : Bytes → Bytes → Bytes
+laterParagraph indentation paragraph = indentation ++ bytes "#\n" ++ paragraphText indentation paragraph
+
+abbrev pub commentText : Bytes → List Bytes → Bytes
+commentText indentation [] = []
+commentText indentation (p ∷ ps) = paragraphText indentation p ++ flatMap (laterParagraph indentation) ps
+
+-- `as` unless there is an inferred name and it equals the import's; a path without a stem has the empty one
+unfoldable pub isInferred : Import → Bool
+isInferred i = pick (eqb (length (stemOf (i .path))) 0) false (sameName (stemOf (i .path)) (i .name))
+
+unfoldable pub importText : Import → Bytes
+importText i = bytes "import '" ++ i .path ++ bytes "'" ++ pick (isInferred i) [] (bytes " as " ++ snakeOf (i .name)) ++ newline
+
+unfoldable pub plainText : ℕ → Bytes
+plainText kind =
+    pick (eqb kind kBool) (bytes "Bool")
+    (pick (eqb kind kBytes) (bytes "Bytes")
+    (pick (eqb kind kF64) (bytes "F64")
+    (pick (eqb kind kS64) (bytes "S64") (pick (eqb kind kString) (bytes "String") (pick (eqb kind kU64) (bytes "U64") (bytes "Unit"))))))
+
+abbrev pub typeText : TypeVariant → Bytes
+typeText (array range inner) = bytes "[" ++ typeText inner ++ bytes "]"
+typeText (plain range kind) = plainText kind
+typeText (custom range none name) = pascalOf name
+typeText (custom range (some «import») name) = snakeOf «import» ++ bytes "." ++ pascalOf name
+
+abbrev pub isUnit : TypeVariant → Bool
+isUnit (array range inner) = false
+isUnit (plain range kind) = eqb kind kUnit
+isUnit (custom range «import» name) = false
+
+abbrev pub ruleText : Rule → Bytes
+ruleText required = []
+ruleText asymmetric = bytes "asymmetric "
+ruleText optional = bytes "optional "
+
+unfoldable pub fieldText : Field → Bytes
+fieldText f =
+    commentText four (f .comment)
+    ++ four
+    ++ ruleText (f .rule)
+    ++ snakeOf (f .name)
+    ++ pick (isUnit (f .type)) [] (bytes ": " ++ typeText (f .type))
+    ++ bytes " = "
+    ++ decimal (f .index)
+    ++ newline
+
+abbrev pub hasComment : Field → Bool
+hasComment f = not (isEmpty (f .comment))
+
+-- the fields after one that has a comment or has none: a blank line stands beside each that has
+abbrev pub laterFields : Bool → List Field → Bytes
+laterFields commented [] = []
+laterFields commented (f ∷ fs) = blank (commented || hasComment f) ++ fieldText f ++ laterFields (hasComment f) fs
+
+abbrev pub fieldsText : List Field → Bytes
+fieldsText [] = []
+fieldsText (f ∷ fs) = fieldText f ++ laterFields (hasComment f) fs
+
+unfoldable pub indexText : ℕ → Bytes
+indexText n = bytes " " ++ decimal n
+
+-- nothing where no index is deleted; a blank line parts it from the fields, where there are any
+unfoldable pub deletedText : Bool → List ℕ → Bytes
+deletedText afterFields indices =
+    pick (isEmpty indices) [] (blank afterFields ++ four ++ bytes "deleted" ++ flatMap indexText indices ++ newline)
+
+abbrev pub variantText : DeclarationVariant → Bytes
+variantText struct = bytes "struct"
+variantText choice = bytes "choice"
+
+unfoldable pub declarationText : Declaration → Bytes
+declarationText d =
+    commentText [] (d .comment)
+    ++ variantText (d .variant)
+    ++ bytes " "
+    ++ pascalOf (d .name)
+    ++ bytes " {\n"
+    ++ fieldsText (d .fields)
+    ++ deletedText (not (isEmpty (d .fields))) (d .deleted)
+    ++ bytes "}\n"
+
+-- each declaration stands after a blank line, the first one only where there are imports
+abbrev pub declarationsText : Bool → List Declaration → Bytes
+declarationsText parted [] = []
+declarationsText parted (d ∷ ds) = blank parted ++ declarationText d ++ declarationsText true ds
+
+unfoldable pub textOf : Schema → Bytes
+textOf s =
+    commentText [] (s .comment)
+    ++ blank (not (isEmpty (s .comment)) && (not (isEmpty (s .imports)) || not (isEmpty (s .declarations))))
+    ++ flatMap importText (s .imports)
+    ++ declarationsText (not (isEmpty (s .imports))) (s .declarations)

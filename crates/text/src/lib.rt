@@ -1,0 +1,1 @@
+// The canonical text of a schema, as schema.rs writes it.
