@@ -1,3 +1,4 @@
 -- The laws of namespaces and answers.
 pub mod Answers
+pub mod Joined
 pub mod Cases
