@@ -8,10 +8,15 @@ use native.Mathlib.Omega.{arith}
 use lib.Dec.{leb}
 use lib.ListN.{length, getD, drop, drop-of-length-le}
 use lib.Seq.{drop-cons}
-use borrow.Author.Tests.{le-leb, lt-leb}
+use borrow.Author.Tests.{le-leb, lt-leb, leb-true}
 use Rattle.wire.specs.Bytes.{Bytes}
 use Rattle.identifier.specs.Byte.{within, isPrintable}
 use Rattle.identifier.specs.Name.{all, isName}
+
+-- both of two tests
+pub and-inv : {x y : Bool} → (x && y) ≡ true → (x ≡ true) × (y ≡ true)
+and-inv {x = true} e = (refl, e)
+and-inv {x = false} e = let z : _≡_ {A = ℕ} 0 1 = cc in absurd (omega arith)
 
 and-false : (x : Bool) → false ≡ (x && false)
 and-false true = refl
@@ -41,3 +46,9 @@ module _ (name : Bytes) where
   pub all-good : {i : ℕ} → Good name i → length name ≤ i → 1 ≤ length name → length name ≤ 128 → true ≡ isName name
   unfolding isName
   all-good g h a b = rw (le-leb 1 (length name) a, le-leb (length name) 128 b) (sym (g .left ∙ rw (drop-of-length-le name h)))
+
+  pub name-short : isName name ≡ true → length name ≤ 128
+  unfolding isName
+  name-short e =
+      let sized : within 1 128 (length name) ≡ true = and-inv {x = within 1 128 (length name)} {y = all isPrintable name} e .0 in
+      leb-true (length name) 128 (and-inv {x = leb 1 (length name)} {y = leb (length name) 128} sized .1)

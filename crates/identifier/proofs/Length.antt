@@ -1,6 +1,6 @@
 -- How long a form is: at most two bytes for each byte of the name, less one.
 use mathlib.Core.Path.{_≡_, refl, ap}
-use mathlib.Core.Bool.{Bool, true, false, _&&_}
+use mathlib.Core.Bool.{Bool, true, false}
 use mathlib.Core.List.{List, [], _∷_, _++_}
 use Prim.Native.Nat.{ℕ, zero, suc, _+_, _*_, _-_, _≤_}
 use native.Mathlib.Omega.{arith}
@@ -12,6 +12,7 @@ use Rattle.identifier.specs.Words.{wordsOf}
 use Rattle.identifier.specs.Forms.{low, barLow, joined, laterWords, snakeOf}
 use Rattle.identifier.specs.Left.{inWord, firstBy, laterBy}
 use Rattle.identifier.proofs.Bytes.{upper-no-break}
+use Rattle.identifier.proofs.Good.{and-inv}
 use Rattle.identifier.proofs.Words.{words-break, joined-begin, later-begin, in-break, in-capital, in-plain}
 
 module _ (g : ℕ → Bytes) (few : (b : ℕ) → length (g b) ≤ 2) where
@@ -56,10 +57,6 @@ form-short up bar = joined-short (laterBy bar) (few bar) (firstBy up) (one up)
     few false b = omega arith
 
 -- a name of capitals: each begins a word
-and-inv : {x y : Bool} → (x && y) ≡ true → (x ≡ true) × (y ≡ true)
-and-inv {x = true} e = (refl, e)
-and-inv {x = false} e = let z : _≡_ {A = ℕ} 0 1 = cc in absurd (omega arith)
-
 in-capitals : (bs : Bytes) → all isUpper bs ≡ true → length (inWord barLow bs) ≡ 2 * length bs
 in-capitals [] e = refl
 in-capitals (b ∷ bs) e =

@@ -12,7 +12,7 @@ ghost use Rattle.identifier.specs.Name.{isName};
 ghost use Rattle.identifier.specs.Left.{firstBy, laterBy, Follows, gives};
 ghost use Rattle.identifier.specs.Words.{wordsOf};
 ghost use Rattle.identifier.specs.Forms.{joined, snakeOf, camelOf, pascalOf, IsForm};
-ghost use Rattle.identifier.specs.Order.{nameOrder};
+ghost use Rattle.identifier.specs.Order.{nameOrder, sameName};
 
 const CLASS: [u8; 256] = *b"\
     \x00\x00\x00\x00\x00\x00\x00\x00\x00\x00\x00\x00\x00\x00\x00\x00\
@@ -381,4 +381,14 @@ pub fn compare(a: &[u8], b: &[u8]) -> Order
     let lower = lower_table();
     let upper = upper_table();
     compare_in(&class, &lower, &upper, a, b)
+}
+
+pub fn same(a: &[u8], b: &[u8]) -> bool
+    ensures { λ r. ⌜ r ≡ sameName (now (a .entry)) (now (b .entry)) ⌝ }
+{
+    match compare(a, b) {
+        Order::Less => false,
+        Order::Equal => true,
+        Order::Greater => false,
+    }
 }
