@@ -1,2 +1,3 @@
 -- The laws of names.
+pub mod Table
 pub mod Cases
