@@ -2,3 +2,4 @@
 pub mod Byte
 pub mod Words
 pub mod Forms
+pub mod Order

@@ -1,1 +1,6 @@
-// identifier
+// The names of schemas, after identifier.rs.
+pub enum Order {
+    Less,
+    Equal,
+    Greater,
+}

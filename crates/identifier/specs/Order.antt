@@ -1,0 +1,36 @@
+-- Document 01, "Names": equality and order are those of the snake forms, by bytes.
+use mathlib.Core.Bool.{Bool, true, false}
+use mathlib.Core.List.{List, [], _∷_}
+use lib.Dec.{ltb}
+use Rattle.wire.specs.Bytes.{Bytes}
+use Rattle.wire.specs.Pick.{pick}
+use Rattle.identifier.specs.Forms.{snakeOf}
+use Rattle.identifier.specs.declared.Order.{Order}
+use Rattle.identifier.specs.declared.Order.the-variants.{Less, Equal, Greater}
+
+-- two lists of bytes, as a dictionary has them
+abbrev pub orderOf : Bytes → Bytes → Order
+orderOf [] [] = Equal
+orderOf [] (y ∷ ys) = Less
+orderOf (x ∷ xs) [] = Greater
+orderOf (x ∷ xs) (y ∷ ys) = pick (ltb x y) Less (pick (ltb y x) Greater (orderOf xs ys))
+
+unfoldable pub nameOrder : Bytes → Bytes → Order
+nameOrder a b = orderOf (snakeOf a) (snakeOf b)
+
+-- the tests that other definitions compute with
+abbrev pub isLess : Order → Bool
+isLess Less = true
+isLess Equal = false
+isLess Greater = false
+
+abbrev pub isEqual : Order → Bool
+isEqual Less = false
+isEqual Equal = true
+isEqual Greater = false
+
+unfoldable pub isBefore : Bytes → Bytes → Bool
+isBefore a b = isLess (nameOrder a b)
+
+unfoldable pub sameName : Bytes → Bytes → Bool
+sameName a b = isEqual (nameOrder a b)

@@ -1,0 +1,3 @@
+-- The laws of stems.
+pub mod Laws
+pub mod Cases
