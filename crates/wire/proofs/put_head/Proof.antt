@@ -1,0 +1,20 @@
+-- `wire::put_head` meets its contract: its four numbers, one after the other.
+use borrow.Author.Needs.{needs}
+use Rattle.wire.specs.Record.{headBytes}
+use Rattle.wire.proofs.Laws.{then}
+use Rattle.wire.proofs.put_head.Statement.{statement}
+use Rattle.wire.proofs.put_head.Tie as tie
+
+returns : tie.Need-returns
+unfolding headBytes
+returns c =
+    then
+    (then
+    (then (c .before .before .before .before .before .before .before .before .before .before .before .before .before .before .put-u16 .ensures) (c .before .before .before .before .before .before .before .before .before .before .put-u162 .ensures))
+    (c .before .before .before .before .before .before .put-u32 .ensures))
+    (c .before .before .put-u322 .ensures)
+
+pub put-head-spec : {M : Type 1} → statement M
+put-head-spec =
+    tie.close
+    (tie.spec (λ c κs. search needs) (λ c κs. search needs) (λ c κs. search needs) (λ c κs. search needs) (λ c. search needs) returns)
