@@ -1,3 +1,5 @@
 -- The definitions of tokens and token tables.
 pub mod Kind
 pub mod Token
+pub mod Payload
+pub mod Table

@@ -1,0 +1,2 @@
+-- The laws of schema, for callers too.
+pub mod Cases

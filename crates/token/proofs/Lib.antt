@@ -1,0 +1,2 @@
+-- The laws of tokens and token tables.
+pub mod Cases

@@ -1,0 +1,92 @@
+-- Document 01, "Tables": what a token's payload may hold, by its kind.
+use Prim.Native.Nat.{ℕ, zero, suc, _+_}
+use mathlib.Core.Bool.{Bool, true, false, not, _&&_, _||_}
+use mathlib.Core.List.{List, [], _∷_, _++_}
+use lib.Dec.{leb, eqb}
+use lib.ListN.{length, take, drop}
+use Rattle.wire.specs.Bytes.{Bytes}
+use Rattle.wire.specs.Le.{leBytes, u16At}
+use Rattle.wire.specs.Pick.{pick}
+use Rattle.identifier.specs.Byte.{within, isLetter, isDigit, isBreak, isPrintable}
+use Rattle.token.specs.Kind.{kIdentifier, kPath, kInteger, kComment}
+
+abbrev pub all : (ℕ → Bool) → Bytes → Bool
+all p [] = true
+all p (b ∷ bs) = p b && all p bs
+
+-- at least n bytes
+abbrev pub atLeast : ℕ → Bytes → Bool
+atLeast zero bs = true
+atLeast (suc n) [] = false
+atLeast (suc n) (b ∷ bs) = atLeast n bs
+
+-- letters, digits, `_`, `-`
+abbrev pub isNameByte : ℕ → Bool
+isNameByte b = isLetter b || (isDigit b || isBreak b)
+
+-- 1 to 128 of them; the first a letter or `_`
+unfoldable pub isIdentifier : Bytes → Bool
+isIdentifier [] = false
+isIdentifier (b ∷ bs) = leb (length (b ∷ bs)) 128 && ((isLetter b || eqb b 95) && all isNameByte bs)
+
+-- a printable byte other than 0x27
+abbrev pub isPathByte : ℕ → Bool
+isPathByte b = isPrintable b && not (eqb b 39)
+
+unfoldable pub isPath : Bytes → Bool
+isPath p = leb (length p) 128 && all isPathByte p
+
+unfoldable pub isInteger : Bytes → Bool
+isInteger p = eqb (length p) 8
+
+-- printable bytes, no space last, none after a space and, where `gap`, none first
+abbrev pub isSpaced : Bool → Bytes → Bool
+isSpaced gap [] = not gap
+isSpaced gap (b ∷ bs) = isPrintable b && (not (gap && eqb b 32) && isSpaced (eqb b 32) bs)
+
+unfoldable pub isParagraph : Bytes → Bool
+isParagraph p = within 1 1024 (length p) && isSpaced true p
+
+-- a paragraph stands after its u16 length: the first one of these bytes, and what follows it
+unfoldable pub paragraphOf : Bytes → Bytes
+paragraphOf bs = take (u16At bs 0) (drop 2 bs)
+
+unfoldable pub afterParagraph : Bytes → Bytes
+afterParagraph bs = drop (2 + u16At bs 0) bs
+
+-- the bytes are whole paragraphs, at most n
+unfoldable pub areParagraphs : ℕ → Bytes → Bool
+areParagraphs zero [] = true
+areParagraphs zero (b ∷ bs) = false
+areParagraphs (suc n) [] = true
+areParagraphs (suc n) (b ∷ bs) =
+    atLeast 2 (b ∷ bs)
+    && (atLeast (2 + u16At (b ∷ bs) 0) (b ∷ bs) && (isParagraph (paragraphOf (b ∷ bs)) && areParagraphs n (afterParagraph (b ∷ bs))))
+
+-- 1 to 32 paragraphs
+unfoldable pub isComment : Bytes → Bool
+isComment p = atLeast 1 p && areParagraphs 32 p
+
+-- a payload of this kind obeys its rule
+unfoldable pub isPayload : ℕ → Bytes → Bool
+isPayload kind p =
+    pick (eqb kind kIdentifier) (isIdentifier p)
+    (pick (eqb kind kPath) (isPath p)
+    (pick (eqb kind kInteger) (isInteger p)
+    (pick (eqb kind kComment) (isComment p)
+    (eqb (length p) 0))))
+
+-- the first n paragraphs of these bytes
+abbrev pub paragraphsIn : ℕ → Bytes → List Bytes
+paragraphsIn zero bs = []
+paragraphsIn (suc n) [] = []
+paragraphsIn (suc n) (b ∷ bs) = paragraphOf (b ∷ bs) ∷ paragraphsIn n (afterParagraph (b ∷ bs))
+
+-- the paragraphs of a Comment's payload
+unfoldable pub paragraphsOf : Bytes → List Bytes
+paragraphsOf = paragraphsIn 32
+
+-- paragraphs as a payload holds them
+unfoldable pub paragraphBytes : List Bytes → Bytes
+paragraphBytes [] = []
+paragraphBytes (p ∷ ps) = leBytes 2 (length p) ++ p ++ paragraphBytes ps

@@ -1,0 +1,75 @@
+-- Document 01, "Tables" and "Numbers that stop a call": what a token table decodes to. R1 first, then record by record R6, R2, R3, R4, R5, R7:
+-- the first faulty record decides, and its offset is told.
+use Prim.Native.Nat.{ℕ, zero, suc, _+_, _-_}
+use mathlib.Core.Bool.{Bool, true, false, not, _&&_}
+use mathlib.Core.List.{List, [], _∷_, _++_}
+use lib.Dec.{eqb, leb, ltb}
+use lib.ListN.{length, take, drop}
+use Rattle.wire.specs.Bytes.{Bytes}
+use Rattle.wire.specs.Le.{u16At, u32At}
+use Rattle.wire.specs.Pick.{pick}
+use Rattle.wire.specs.Record.{recordBytes}
+use Rattle.identifier.specs.Byte.{within}
+use Rattle.token.specs.Kind.{kLeftSquare}
+use Rattle.token.specs.Token.{Token}
+use Rattle.token.specs.Payload.{atLeast, isPayload}
+
+-- the length of the record that these bytes begin with
+abbrev pub sizeOf : Bytes → ℕ
+sizeOf bs = u16At bs 0
+
+-- and what it holds
+unfoldable pub tokenOf : Bytes → Token
+tokenOf bs = record { kind = u16At bs 2; start = u32At bs 4; end = u32At bs 8; payload = take (sizeOf bs - 12) (drop 12 bs) }
+
+-- at least 12 bytes, a length of at least 12, and as many bytes as it says
+unfoldable pub isWhole : Bytes → Bool
+isWhole bs = atLeast 12 bs && (leb 12 (sizeOf bs) && atLeast (sizeOf bs) bs)
+
+-- at least the end before it, and at most its own end
+unfoldable pub isOrdered : ℕ → Token → Bool
+isOrdered last t = leb last (t .start) && leb (t .start) (t .end)
+
+-- how many LeftSquares stand in a row up to this token, with `row` before it
+unfoldable pub rowOf : ℕ → Token → ℕ
+rowOf row t = pick (eqb (t .kind) kLeftSquare) (suc row) 0
+
+-- the number that the record at the front of these bytes is refused with, after one that ends at `last` and `row` LeftSquares; 0 for none
+unfoldable pub faultOf : ℕ → ℕ → Bytes → ℕ
+faultOf last row bs =
+    pick (not (isWhole bs)) 2
+    (pick (not (within 1 25 (tokenOf bs .kind))) 3
+    (pick (not (isPayload (tokenOf bs .kind) (tokenOf bs .payload))) 4
+    (pick (not (isOrdered last (tokenOf bs))) 5
+    (pick (ltb 64 (rowOf row (tokenOf bs))) 7
+    0))))
+
+-- a number with the offset of the faulty record, or the tokens
+pub data Decoded : Type 0 where
+  refused : ℕ → ℕ → Decoded
+  tokens : List Token → Decoded
+
+abbrev pub addToken : Token → Decoded → Decoded
+addToken t (refused number at) = refused number at
+addToken t (tokens ts) = tokens (t ∷ ts)
+
+-- the bytes from the offset `at` on, where at most n more tokens may stand
+unfoldable pub decodeFrom : ℕ → ℕ → ℕ → ℕ → Bytes → Decoded
+decodeFrom zero at last row [] = tokens []
+decodeFrom zero at last row (b ∷ bs) = refused 6 at
+decodeFrom (suc n) at last row [] = tokens []
+decodeFrom (suc n) at last row (b ∷ bs) =
+    elim (faultOf last row (b ∷ bs)) [
+      | suc f ↦ refused (suc f) at
+      | zero ↦
+          addToken (tokenOf (b ∷ bs))
+          (decodeFrom n (at + sizeOf (b ∷ bs)) (tokenOf (b ∷ bs) .end) (rowOf row (tokenOf (b ∷ bs))) (drop (sizeOf (b ∷ bs)) (b ∷ bs)))
+    ]
+
+unfoldable pub decode : Bytes → Decoded
+decode t = elim (atLeast 65537 t) [ true ↦ refused 1 0 | false ↦ decodeFrom 4096 0 0 0 t ]
+
+-- tokens as a table holds them
+unfoldable pub encodeTokens : List Token → Bytes
+encodeTokens [] = []
+encodeTokens (t ∷ ts) = recordBytes (t .kind) (t .start) (t .end) (t .payload) ++ encodeTokens ts
