@@ -1,2 +1,3 @@
 -- The laws of tokens and token tables.
+pub mod Laws
 pub mod Cases

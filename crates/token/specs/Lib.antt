@@ -3,3 +3,4 @@ pub mod Kind
 pub mod Token
 pub mod Payload
 pub mod Table
+pub mod Checked
