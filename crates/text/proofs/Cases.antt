@@ -14,7 +14,7 @@ use Rattle.stem.specs.Stem.{stemOf, lastPart, isParent, cut}
 use Rattle.token.specs.Kind.{kBool, kString, kU64, kUnit}
 use Rattle.schema.specs.Ast.{Range, TypeVariant, array, plain, custom, Rule, required, asymmetric, optional, Field, Import, DeclarationVariant, struct, choice, Declaration, Schema}
 use Rattle.text.specs.Wrap.{wrap}
-use Rattle.text.specs.Text.{textOf, importText, isInferred, lineText, paragraphText, laterParagraph, plainText, fieldText, indexText, deletedText, declarationText, blank}
+use Rattle.text.specs.Text.{textOf, importText, isInferred, lineText, paragraphText, mark, plainText, fieldText, indexText, deletedText, declarationText, blank}
 
 -- ranges are not printed
 abbrev r : Range
@@ -45,13 +45,13 @@ empty = refl
 
 -- a comment alone: `#` between its paragraphs, and no blank line after it
 comment-only : textOf (schema (bytes "One." ∷ bytes "Two words." ∷ []) [] []) ≡ bytes "# One.\n#\n# Two words.\n"
-unfolding textOf blank pick flatMap paragraphText laterParagraph lineText wrap
+unfolding textOf blank pick flatMap paragraphText mark lineText wrap
 comment-only = refl
 
 -- a comment and a declaration without fields
 deleted-only : textOf (schema (bytes "One." ∷ []) [] (declaration (bytes "Two." ∷ []) choice (bytes "_a-b") [] (0 ∷ 18446744073709551615 ∷ []) ∷ declaration [] struct (bytes "_") [] [] ∷ []))
     ≡ bytes "# One.\n\n# Two.\nchoice AB {\n    deleted 0 18446744073709551615\n}\n\nstruct  {\n}\n"
-unfolding textOf declarationText fieldText deletedText indexText blank plainText flatMap pick decimal digits snakeOf pascalOf lowerOf upperOf paragraphText laterParagraph lineText wrap
+unfolding textOf declarationText fieldText deletedText indexText blank plainText flatMap pick decimal digits snakeOf pascalOf lowerOf upperOf paragraphText mark lineText wrap
 deleted-only = refl
 
 -- `as` where the stem isn't the name by snake case, or there is none
@@ -69,7 +69,7 @@ fields : textOf (schema [] [] (declaration [] choice (bytes "HTTPPort")
     ∷ field [] required (bytes "f") (plain r kString) 4
     ∷ []) [] ∷ []))
     ≡ bytes "choice HTTPPort {\n    asymmetric b = 0\n    optional c: [Unit] = 1\n\n    # D.\n    #\n    # E.\n    d: [[op_table.Op8d]] = 22\n\n    e: Op = 3\n    f: String = 4\n}\n"
-unfolding textOf declarationText fieldText deletedText indexText blank plainText flatMap pick decimal digits snakeOf pascalOf lowerOf upperOf paragraphText laterParagraph lineText wrap
+unfolding textOf declarationText fieldText deletedText indexText blank plainText flatMap pick decimal digits snakeOf pascalOf lowerOf upperOf paragraphText mark lineText wrap
 fields = refl
 
 -- a word of n letters
