@@ -8,7 +8,7 @@ use native.Mathlib.Numerals.{add-one, sub-one}
 use borrow.Author.Tests.{not-true, not-false}
 use lib.Dec.{leb, eqb, leb·zero, leb·suc-zero, leb·suc-suc}
 use lib.ListN.{length, getD, take, drop, drop-of-length-le, length-drop}
-use lib.Seq.{drop-cons, drop-drop}
+use lib.Seq.{drop-cons, drop-drop, take-all}
 use Rattle.wire.specs.Bytes.{Bytes}
 use Rattle.wire.specs.Le.{leAt, u16At}
 use Rattle.identifier.specs.Byte.{isPrintable}
@@ -84,8 +84,8 @@ module _ {p : Bytes} {n at : ℕ} {r : Bool} (s : Paging p n at r) where
 
   pub paged-step : at < length p → (n ≡ 0 → ⊥)
       → r ≡ (leb 2 (length p - at)
-        && (leb (2 + u16At p at) (length p - at)
-        && (isParagraph (take (pageEnd p at - (at + 2)) (drop (at + 2) p)) && areParagraphs (n - 1) (drop (pageEnd p at) p))))
+      && (leb (2 + u16At p at) (length p - at)
+      && (isParagraph (take (pageEnd p at - (at + 2)) (drop (at + 2) p)) && areParagraphs (n - 1) (drop (pageEnd p at) p))))
   unfolding paragraphOf afterParagraph leAt
   paged-step h e =
       let l : 0 < length (drop at p) = rw length-drop (omega arith) in
@@ -95,3 +95,7 @@ module _ {p : Bytes} {n at : ℕ} {r : Bool} (s : Paging p n at r) where
 
   pub paged-end : length p ≤ at → true ≡ r
   paged-end h = sym (paragraphs-none n) ∙ rw (drop-of-length-le p h) at (s .left)
+
+-- the part `&p[at..]`
+pub part-from : (p : Bytes) (at : ℕ) → take (length p - at) (drop at p) ≡ drop at p
+part-from p at = take-all (length p - at) (drop at p) (rw length-drop (omega arith))

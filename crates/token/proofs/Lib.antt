@@ -1,3 +1,4 @@
 -- The laws of tokens and token tables.
 pub mod Laws
+pub mod Records
 pub mod Cases

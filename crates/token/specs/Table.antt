@@ -67,7 +67,7 @@ decodeFrom (suc n) at last row (b ∷ bs) =
     ]
 
 unfoldable pub decode : Bytes → Decoded
-decode t = elim (atLeast 65537 t) [ true ↦ refused 1 0 | false ↦ decodeFrom 4096 0 0 0 t ]
+decode t = pick (ltb 65536 (length t)) (refused 1 0) (decodeFrom 4096 0 0 0 t)
 
 -- tokens as a table holds them
 unfoldable pub encodeTokens : List Token → Bytes

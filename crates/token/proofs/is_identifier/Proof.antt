@@ -9,10 +9,6 @@ use Rattle.token.specs.Payload.{all, isNameByte, isIdentifier}
 use borrow.Author.Needs.{needs}
 use Rattle.token.proofs.is_identifier.Statement.{statement}
 use Rattle.token.proofs.is_identifier.Tie as tie
-use Rattle.token.proofs.is_identifier.Reads as reads
-use Rattle.token.proofs.is_identifier.Lts as lts
-use Rattle.token.proofs.is_name_byte.Reads as is-name-byte-reads
-use Rattle.token.proofs.is_name_start.Reads as is-name-start-reads
 
 abbrev Inv-loop : tie.InvT-loop
 Inv-loop p i₀ i = Asking isNameByte p i (isIdentifier p)
@@ -28,12 +24,6 @@ returns-2 : tie.Need-returns-2 Inv-loop μ-loop
 unfolding isIdentifier
 returns-2 c = search choice
 
-shared-slice-read-is-name-start : tie.Need-shared-slice-read-is-name-start Inv-loop μ-loop
-shared-slice-read-is-name-start c = search needs
-
-is-name-start-requires : tie.Need-is-name-start-requires Inv-loop μ-loop
-is-name-start-requires c κs = search needs
-
 returns-3 : tie.Need-returns-3 Inv-loop μ-loop
 unfolding isIdentifier
 returns-3 c = rw (← c .before .is-name-start .ensures) (search choice)
@@ -42,20 +32,8 @@ loop-holds : tie.Need-loop-holds Inv-loop μ-loop
 unfolding isIdentifier
 loop-holds c = record { inside = omega arith; left = rw (← c .before .is-name-start .ensures) (search choice) }
 
-shared-slice-read-is-name-byte : tie.Need-shared-slice-read-is-name-byte Inv-loop μ-loop
-shared-slice-read-is-name-byte c = search needs
-
-is-name-byte-requires : tie.Need-is-name-byte-requires Inv-loop μ-loop
-is-name-byte-requires c κs = search needs
-
 returns-4 : tie.Need-returns-4 Inv-loop μ-loop
 returns-4 c = asked-no (c .before .before .before .before .loop .inv) (c .before .before .before .loop-test .taken) (c .before .is-name-byte .ensures) (c .if4 .taken)
-
-add-i : tie.Need-add-i Inv-loop μ-loop
-add-i c = search needs
-
-loop-less : tie.Need-loop-less Inv-loop μ-loop
-loop-less c = search needs
 
 loop-again : tie.Need-loop-again Inv-loop μ-loop
 loop-again c = asked-yes (c .before .before .before .before .loop .inv) (c .before .before .before .loop-test .taken) (c .before .is-name-byte .ensures) (c .if4 .left)
@@ -66,19 +44,4 @@ returns-5 c = asked-all (c .before .loop .inv) (c .loop-test .left)
 pub is-identifier-spec : {M : Type 1} → statement M
 is-identifier-spec =
     tie.close
-    (tie.spec
-    Inv-loop
-    μ-loop
-    returns
-    returns-2
-    shared-slice-read-is-name-start
-    is-name-start-requires
-    returns-3
-    loop-holds
-    shared-slice-read-is-name-byte
-    is-name-byte-requires
-    returns-4
-    add-i
-    loop-less
-    loop-again
-    returns-5)
+    (tie.spec Inv-loop μ-loop returns returns-2 (λ c. search needs) (λ c κs. search needs) returns-3 loop-holds (λ c. search needs) (λ c κs. search needs) returns-4 (λ c. search needs) (λ c. search needs) loop-again returns-5)

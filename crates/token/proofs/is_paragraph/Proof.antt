@@ -7,9 +7,6 @@ use Rattle.token.proofs.Laws.{Spacing, unprintable, spaced-twice, space
 use borrow.Author.Needs.{needs}
 use Rattle.token.proofs.is_paragraph.Statement.{statement}
 use Rattle.token.proofs.is_paragraph.Tie as tie
-use Rattle.token.proofs.is_paragraph.Reads as reads
-use Rattle.token.proofs.is_paragraph.Lts as lts
-use Rattle.token.proofs.is_printable.Reads as is-printable-reads
 
 abbrev Inv-loop : tie.InvT-loop
 Inv-loop p gap₀ i₀ gap i = Spacing p gap i (isParagraph p)
@@ -29,23 +26,11 @@ loop-holds : tie.Need-loop-holds Inv-loop μ-loop
 unfolding isParagraph
 loop-holds c = record { inside = omega arith; left = search choice }
 
-shared-slice-read-b : tie.Need-shared-slice-read-b Inv-loop μ-loop
-shared-slice-read-b c = search needs
-
-is-printable-requires : tie.Need-is-printable-requires Inv-loop μ-loop
-is-printable-requires c κs = search needs
-
 returns-3 : tie.Need-returns-3 Inv-loop μ-loop
 returns-3 c = unprintable (c .before .before .before .before .loop .inv) (c .before .before .before .loop-test .taken) (c .before .is-printable .ensures) (c .if3 .taken)
 
 returns-4 : tie.Need-returns-4 Inv-loop μ-loop
 returns-4 c = spaced-twice (c .before .before .before .before .before .loop .inv) (c .before .before .before .before .loop-test .taken) (c .before .before .is-printable .ensures) (c .before .if3 .left) (c .if4 .taken)
-
-add-i : tie.Need-add-i Inv-loop μ-loop
-add-i c = search needs
-
-loop-less : tie.Need-loop-less Inv-loop μ-loop
-loop-less c = search needs
 
 loop-again : tie.Need-loop-again Inv-loop μ-loop
 loop-again c = spaced-once (c .before .before .before .before .before .loop .inv) (c .before .before .before .before .loop-test .taken) (c .before .before .is-printable .ensures) (c .before .if3 .left) (c .if4 .left)
@@ -56,17 +41,4 @@ returns-5 c = spaced-end (c .before .loop .inv) (c .loop-test .left)
 pub is-paragraph-spec : {M : Type 1} → statement M
 is-paragraph-spec =
     tie.close
-    (tie.spec
-    Inv-loop
-    μ-loop
-    returns
-    returns-2
-    loop-holds
-    shared-slice-read-b
-    is-printable-requires
-    returns-3
-    returns-4
-    add-i
-    loop-less
-    loop-again
-    returns-5)
+    (tie.spec Inv-loop μ-loop returns returns-2 loop-holds (λ c. search needs) (λ c κs. search needs) returns-3 returns-4 (λ c. search needs) (λ c. search needs) loop-again returns-5)

@@ -3,11 +3,6 @@ use Rattle.token.specs.Table.{rowAfter}
 use borrow.Author.Needs.{needs}
 use Rattle.token.proofs.row_after.Statement.{statement}
 use Rattle.token.proofs.row_after.Tie as tie
-use Rattle.token.proofs.row_after.Reads as reads
-use Rattle.token.proofs.row_after.Lts as lts
-
-add-result : tie.Need-add-result
-add-result c = search needs
 
 returns : tie.Need-returns
 unfolding rowAfter
@@ -18,4 +13,4 @@ unfolding rowAfter
 returns-2 c = search choice
 
 pub row-after-spec : {M : Type 1} → statement M
-row-after-spec = tie.close (tie.spec add-result returns returns-2)
+row-after-spec = tie.close (tie.spec (λ c. search needs) returns returns-2)
