@@ -1,2 +1,9 @@
 -- The laws of schema, for callers too.
 pub mod Cases
+pub mod Records
+pub mod Parts
+pub mod Written
+pub mod Payloads
+pub mod ReadBack
+pub mod InOrder
+pub mod RoundTrip

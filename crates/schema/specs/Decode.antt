@@ -23,12 +23,22 @@ rangeOf r = record { start = r .start; end = r .end }
 abbrev pub commentOf : Bytes → List Bytes
 commentOf p = paragraphsOf (drop 2 p)
 
+-- the schema comment, which comes first
+abbrev pub openingOf : List Token → List Bytes
+openingOf [] = []
+openingOf (r ∷ rs) = elim (eqb (r .kind) sComment) [ true ↦ paragraphsOf (r .payload) | false ↦ [] ]
+
 abbrev pub importOf : Token → Import
 importOf r = record { range = rangeOf r; name = nameOf (r .payload); path = afterName (r .payload) }
 
+-- the imports up to a record that is neither the schema comment's nor an import's
 abbrev pub importsOf : List Token → List Import
 importsOf [] = []
-importsOf (r ∷ rs) = elim (eqb (r .kind) sImport) [ true ↦ importOf r ∷ importsOf rs | false ↦ [] ]
+importsOf (r ∷ rs) =
+    elim (eqb (r .kind) sImport) [
+      | true ↦ importOf r ∷ importsOf rs
+      | false ↦ elim (eqb (r .kind) sComment) [ true ↦ importsOf rs | false ↦ [] ]
+    ]
 
 -- a name of zero bytes stands for none
 abbrev pub optional : Bytes → Option Bytes
@@ -102,12 +112,7 @@ declarationsOf (r ∷ rs) =
     ]
 
 abbrev pub schemaOf : List Token → Schema
-schemaOf [] = record { comment = []; imports = []; declarations = [] }
-schemaOf (r ∷ rs) =
-    elim (eqb (r .kind) sComment) [
-      | true ↦ record { comment = paragraphsOf (r .payload); imports = importsOf rs; declarations = declarationsOf rs }
-      | false ↦ record { comment = []; imports = importsOf (r ∷ rs); declarations = declarationsOf (r ∷ rs) }
-    ]
+schemaOf rs = record { comment = openingOf rs; imports = importsOf rs; declarations = declarationsOf rs }
 
 -- nothing exactly where the number is R9
 unfoldable pub decodeSchema : Bytes → Option Schema

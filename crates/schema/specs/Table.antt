@@ -48,7 +48,7 @@ mayFollow last k =
 
 -- imports ascend by snake case
 unfoldable pub isLater : Token → Token → Bool
-isLater last r = not (eqb (last .kind) sImport && eqb (r .kind) sImport) || isBefore (nameOf (last .payload)) (nameOf (r .payload))
+isLater last r = not (eqb (r .kind) sImport && eqb (last .kind) sImport) || isBefore (nameOf (last .payload)) (nameOf (r .payload))
 
 -- how many arrays stand in a row up to this record, with `row` before it
 unfoldable pub rowOf : ℕ → Token → ℕ
