@@ -4,3 +4,4 @@ pub mod Wrap
 pub mod Places
 pub mod Comment
 pub mod Cases
+pub mod Walk

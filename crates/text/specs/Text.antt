@@ -90,16 +90,18 @@ ruleText required = []
 ruleText asymmetric = bytes "asymmetric "
 ruleText optional = bytes "optional "
 
+-- a field's line has three parts
+unfoldable pub fieldName : List Bytes → Rule → Bytes → Bytes
+fieldName comment rule name = commentText four comment ++ four ++ ruleText rule ++ snakeOf name
+
+unfoldable pub fieldType : TypeVariant → Bytes
+fieldType type = pick (isUnit type) [] (bytes ": " ++ typeText type)
+
+unfoldable pub fieldIndex : ℕ → Bytes
+fieldIndex index = bytes " = " ++ decimal index ++ newline
+
 unfoldable pub fieldText : Field → Bytes
-fieldText f =
-    commentText four (f .comment)
-    ++ four
-    ++ ruleText (f .rule)
-    ++ snakeOf (f .name)
-    ++ pick (isUnit (f .type)) [] (bytes ": " ++ typeText (f .type))
-    ++ bytes " = "
-    ++ decimal (f .index)
-    ++ newline
+fieldText f = fieldName (f .comment) (f .rule) (f .name) ++ fieldType (f .type) ++ fieldIndex (f .index)
 
 abbrev pub hasComment : Field → Bool
 hasComment f = not (isEmpty (f .comment))
@@ -118,16 +120,15 @@ deletedText afterFields indices =
     pick (isEmpty indices) [] (blank afterFields ++ four ++ bytes "deleted" ++ flatMap indexText indices ++ newline)
 
 abbrev pub variantText : DeclarationVariant → Bytes
-variantText struct = bytes "struct"
-variantText choice = bytes "choice"
+variantText struct = bytes "struct "
+variantText choice = bytes "choice "
+
+unfoldable pub headText : List Bytes → DeclarationVariant → Bytes → Bytes
+headText comment variant name = commentText [] comment ++ variantText variant ++ pascalOf name ++ bytes " {\n"
 
 unfoldable pub declarationText : Declaration → Bytes
 declarationText d =
-    commentText [] (d .comment)
-    ++ variantText (d .variant)
-    ++ bytes " "
-    ++ pascalOf (d .name)
-    ++ bytes " {\n"
+    headText (d .comment) (d .variant) (d .name)
     ++ fieldsText false false (d .fields)
     ++ deletedText (not (isEmpty (d .fields))) (d .deleted)
     ++ bytes "}\n"
