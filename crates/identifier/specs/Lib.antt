@@ -3,4 +3,5 @@ pub mod Byte
 pub mod Table
 pub mod Words
 pub mod Forms
+pub mod Left
 pub mod Order
