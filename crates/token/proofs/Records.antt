@@ -17,6 +17,7 @@ use Rattle.identifier.specs.Byte.{within}
 use Rattle.token.specs.Token.{Token, endOf}
 use Rattle.token.specs.Payload.{isPayload}
 use Rattle.token.specs.Table.{sizeOf, tokenOf, isWhole, isOrdered, rowAfter, faultOf, Decoded, refused, tokens, addToken, decodeFrom, decode}
+use Rattle.token.specs.Fit.{Sound}
 use Rattle.token.specs.Checked.{answerOf, checked}
 use Rattle.token.specs.declared.Checked.{Checked}
 use Rattle.token.specs.declared.Checked.the-variants.{Refused, Fine}
@@ -72,10 +73,7 @@ pick-zero false k y e = (refl, e)
 -- the record at the front of these bytes is good, after one that ends at `last` and `row` LeftSquares
 pub record Good (last row : ℕ) (bs : Bytes) : Type 0 where
   pub fits : Fits bs
-  pub known : (1 ≤ tokenOf bs .kind) × (tokenOf bs .kind ≤ 25)
-  pub payload : isPayload (tokenOf bs .kind) (tokenOf bs .payload) ≡ true
-  pub order : (last ≤ tokenOf bs .start) × (tokenOf bs .start ≤ tokenOf bs .end)
-  pub shallow : rowAfter row (tokenOf bs .kind) ≤ 64
+  pub sound : Sound last row (tokenOf bs)
 
 -- both bounds of a test on two
 bounds : (a x b y : ℕ) → (leb a x && leb b y) ≡ true → (a ≤ x) × (b ≤ y)
@@ -91,10 +89,12 @@ good last row bs e =
     let s = pick-zero _ 6 _ (o .1) in
     record {
       fits = fits bs (not-false _ (w .0));
-      known = bounds _ _ _ _ (not-false _ (k .0));
-      payload = not-false _ (p .0);
-      order = bounds _ _ _ _ (not-false _ (o .0));
-      shallow = ltb-false 64 _ (s .0);
+      sound = record {
+        known = bounds _ _ _ _ (not-false _ (k .0));
+        payload = not-false _ (p .0);
+        order = bounds _ _ _ _ (not-false _ (o .0));
+        shallow = ltb-false 64 _ (s .0);
+      };
     }
 
 -- an answer of which `count` tokens are known, the last of them ending at `last`
@@ -154,6 +154,6 @@ module _ {t : Bytes} {at count last row : ℕ} {r : Checked} (s : Checking t at 
           record {
             inside = omega arith;
             few = omega (arith, s .few, m);
-            shallow = g .shallow;
+            shallow = g .sound .shallow;
             left = rw n (rw (decode-next at last row (4096 - count) (drop at t) left-some rest-some (sym e ∙ z), drop-drop (sizeOf (drop at t)) at t, onto-add) at (s .left));
           }

@@ -4,44 +4,39 @@ ghost use Prim.Native.Nat.{_+_, _≤_, _<_};
 ghost use mathlib.Core.Bool.{_&&_};
 ghost use lib.Dec.{leb};
 ghost use lib.ListN.{length, drop};
+ghost use Rattle.wire.specs.Le.{leNumber};
 ghost use Rattle.identifier.specs.Byte.{within, isPrintable};
+ghost use Rattle.token.specs.Kind.{kInteger};
 ghost use Rattle.token.specs.Payload.{isNameStart, isNameByte, isPathByte, isIdentifier, isPath, isParagraph, isComment, isPayload};
 ghost use Rattle.token.specs.Table.{isWhole, rowAfter, faultOf};
 ghost use Rattle.token.specs.Checked.{checked};
+ghost use Rattle.token.specs.Places.{tokAt, nextAt, Wf};
 
-pub const COMMENT: u16 = 7;
-
-pub const IDENTIFIER: u16 = 12;
-
-pub const INTEGER: u16 = 14;
-
-pub const LEFT_SQUARE: u16 = 16;
-
-pub const PATH: u16 = 18;
+pub mod kind;
 
 fn is_name_start(b: u8) -> bool
     ensures { λ r. ⌜ r ≡ isNameStart b ⌝ }
 {
-    (((65 <= b) & (b <= 90)) | ((97 <= b) & (b <= 122))) | (b == 95)
+    (((b'A' <= b) & (b <= b'Z')) | ((b'a' <= b) & (b <= b'z'))) | (b == b'_')
 }
 
 fn is_name_byte(b: u8) -> bool
     ensures { λ r. ⌜ r ≡ isNameByte b ⌝ }
 {
-    (((65 <= b) & (b <= 90)) | ((97 <= b) & (b <= 122)))
-        | (((48 <= b) & (b <= 57)) | ((b == 95) | (b == 45)))
+    (((b'A' <= b) & (b <= b'Z')) | ((b'a' <= b) & (b <= b'z')))
+        | (((b'0' <= b) & (b <= b'9')) | ((b == b'_') | (b == b'-')))
 }
 
 fn is_printable(b: u8) -> bool
     ensures { λ r. ⌜ r ≡ isPrintable b ⌝ }
 {
-    (32 <= b) & (b <= 126)
+    (b' ' <= b) & (b <= b'~')
 }
 
 fn is_path_byte(b: u8) -> bool
     ensures { λ r. ⌜ r ≡ isPathByte b ⌝ }
 {
-    ((32 <= b) & (b <= 126)) & (b != 39)
+    ((b' ' <= b) & (b <= b'~')) & (b != b'\'')
 }
 
 fn is_identifier(p: &[u8]) -> bool
@@ -98,7 +93,7 @@ fn is_paragraph(p: &[u8]) -> bool
         if !is_printable(b) {
             return false;
         }
-        let space = b == 32;
+        let space = b == b' ';
         if gap & space {
             return false;
         }
@@ -139,16 +134,16 @@ fn is_comment(p: &[u8]) -> bool
 fn is_payload(kind: u16, p: &[u8]) -> bool
     ensures { λ r. ⌜ r ≡ isPayload kind (now (p .entry)) ⌝ }
 {
-    if kind == IDENTIFIER {
+    if kind == kind::IDENTIFIER {
         return is_identifier(p);
     }
-    if kind == PATH {
+    if kind == kind::PATH {
         return is_path(p);
     }
-    if kind == INTEGER {
+    if kind == kind::INTEGER {
         return p.len() == 8;
     }
-    if kind == COMMENT {
+    if kind == kind::COMMENT {
         return is_comment(p);
     }
     p.len() == 0
@@ -183,7 +178,7 @@ fn row_after(row: usize, kind: u16) -> usize
     requires { ⌜ row ≤ 64 ⌝ }
     ensures { λ r. ⌜ r ≡ rowAfter row kind ⌝ }
 {
-    if kind == LEFT_SQUARE {
+    if kind == kind::LEFT_SQUARE {
         return row + 1;
     }
     0
@@ -244,4 +239,48 @@ pub fn check(t: &[u8]) -> Checked
         at += wire::u16_at(bs, 0) as usize;
     }
     Checked::Fine(count, last)
+}
+
+// The walk over a table that passed the check: what stands at a place, and the place after it.
+pub fn kind_at(t: &[u8], at: usize) -> u16
+    requires { ⌜ (Wf (now t) at) × (at < length (now t)) ⌝ }
+    ensures { λ r. ⌜ r ≡ tokAt (now (t .entry)) at .kind ⌝ }
+{
+    wire::u16_at(t, at + 2)
+}
+
+pub fn start_at(t: &[u8], at: usize) -> u32
+    requires { ⌜ (Wf (now t) at) × (at < length (now t)) ⌝ }
+    ensures { λ r. ⌜ r ≡ tokAt (now (t .entry)) at .start ⌝ }
+{
+    wire::u32_at(t, at + 4)
+}
+
+pub fn end_at(t: &[u8], at: usize) -> u32
+    requires { ⌜ (Wf (now t) at) × (at < length (now t)) ⌝ }
+    ensures { λ r. ⌜ r ≡ tokAt (now (t .entry)) at .end ⌝ }
+{
+    wire::u32_at(t, at + 8)
+}
+
+pub fn payload_at(t: &[u8], at: usize) -> &[u8]
+    requires { ⌜ (Wf (now t) at) × (at < length (now t)) ⌝ }
+    ensures { λ r. ⌜ now r ≡ tokAt (now (t .entry)) at .payload ⌝ }
+{
+    let size = wire::u16_at(t, at) as usize;
+    &t[at + 12..at + size]
+}
+
+pub fn integer_at(t: &[u8], at: usize) -> u64
+    requires { ⌜ (Wf (now t) at) × (at < length (now t)) × (tokAt (now t) at .kind ≡ kInteger) ⌝ }
+    ensures { λ r. ⌜ r ≡ leNumber (tokAt (now (t .entry)) at .payload) ⌝ }
+{
+    wire::u64_at(t, at + 12)
+}
+
+pub fn next_at(t: &[u8], at: usize) -> usize
+    requires { ⌜ (Wf (now t) at) × (at < length (now t)) ⌝ }
+    ensures { λ r. ⌜ r ≡ nextAt (now (t .entry)) at ⌝ }
+{
+    at + wire::u16_at(t, at) as usize
 }
