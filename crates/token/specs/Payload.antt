@@ -3,7 +3,7 @@ use Prim.Native.Nat.{ℕ, zero, suc, _+_}
 use mathlib.Core.Bool.{Bool, true, false, not, _&&_, _||_}
 use mathlib.Core.List.{List, [], _∷_, _++_}
 use lib.Dec.{leb, eqb}
-use lib.ListN.{length, take, drop}
+use lib.ListN.{length, getD, take, drop}
 use Rattle.wire.specs.Bytes.{Bytes}
 use Rattle.wire.specs.Le.{leBytes, u16At}
 use Rattle.wire.specs.Pick.{pick}
@@ -20,14 +20,17 @@ atLeast zero bs = true
 atLeast (suc n) [] = false
 atLeast (suc n) (b ∷ bs) = atLeast n bs
 
+-- a letter or `_`
+abbrev pub isNameStart : ℕ → Bool
+isNameStart b = isLetter b || eqb b 95
+
 -- letters, digits, `_`, `-`
 abbrev pub isNameByte : ℕ → Bool
 isNameByte b = isLetter b || (isDigit b || isBreak b)
 
 -- 1 to 128 of them; the first a letter or `_`
 unfoldable pub isIdentifier : Bytes → Bool
-isIdentifier [] = false
-isIdentifier (b ∷ bs) = leb (length (b ∷ bs)) 128 && ((isLetter b || eqb b 95) && all isNameByte bs)
+isIdentifier p = within 1 128 (length p) && (isNameStart (getD p 0 0) && all isNameByte p)
 
 -- a printable byte other than 0x27
 abbrev pub isPathByte : ℕ → Bool
@@ -52,7 +55,7 @@ unfoldable pub paragraphOf : Bytes → Bytes
 paragraphOf bs = take (u16At bs 0) (drop 2 bs)
 
 unfoldable pub afterParagraph : Bytes → Bytes
-afterParagraph bs = drop (2 + u16At bs 0) bs
+afterParagraph bs = drop (u16At bs 0) (drop 2 bs)
 
 -- the bytes are whole paragraphs, at most n
 unfoldable pub areParagraphs : ℕ → Bytes → Bool
@@ -65,7 +68,7 @@ areParagraphs (suc n) (b ∷ bs) =
 
 -- 1 to 32 paragraphs
 unfoldable pub isComment : Bytes → Bool
-isComment p = atLeast 1 p && areParagraphs 32 p
+isComment p = leb 1 (length p) && areParagraphs 32 p
 
 -- a payload of this kind obeys its rule
 unfoldable pub isPayload : ℕ → Bytes → Bool

@@ -30,9 +30,9 @@ isWhole bs = atLeast 12 bs && (leb 12 (sizeOf bs) && atLeast (sizeOf bs) bs)
 unfoldable pub isOrdered : ℕ → Token → Bool
 isOrdered last t = leb last (t .start) && leb (t .start) (t .end)
 
--- how many LeftSquares stand in a row up to this token, with `row` before it
-unfoldable pub rowOf : ℕ → Token → ℕ
-rowOf row t = pick (eqb (t .kind) kLeftSquare) (suc row) 0
+-- how many LeftSquares stand in a row up to a token of this kind, with `row` before it
+unfoldable pub rowAfter : ℕ → ℕ → ℕ
+rowAfter row kind = pick (eqb kind kLeftSquare) (row + 1) 0
 
 -- the number that the record at the front of these bytes is refused with, after one that ends at `last` and `row` LeftSquares; 0 for none
 unfoldable pub faultOf : ℕ → ℕ → Bytes → ℕ
@@ -41,7 +41,7 @@ faultOf last row bs =
     (pick (not (within 1 25 (tokenOf bs .kind))) 3
     (pick (not (isPayload (tokenOf bs .kind) (tokenOf bs .payload))) 4
     (pick (not (isOrdered last (tokenOf bs))) 5
-    (pick (ltb 64 (rowOf row (tokenOf bs))) 7
+    (pick (ltb 64 (rowAfter row (tokenOf bs .kind))) 7
     0))))
 
 -- a number with the offset of the faulty record, or the tokens
@@ -63,11 +63,11 @@ decodeFrom (suc n) at last row (b ∷ bs) =
       | suc f ↦ refused (suc f) at
       | zero ↦
           addToken (tokenOf (b ∷ bs))
-          (decodeFrom n (at + sizeOf (b ∷ bs)) (tokenOf (b ∷ bs) .end) (rowOf row (tokenOf (b ∷ bs))) (drop (sizeOf (b ∷ bs)) (b ∷ bs)))
+          (decodeFrom n (at + sizeOf (b ∷ bs)) (tokenOf (b ∷ bs) .end) (rowAfter row (tokenOf (b ∷ bs) .kind)) (drop (sizeOf (b ∷ bs)) (b ∷ bs)))
     ]
 
 unfoldable pub decode : Bytes → Decoded
-decode t = elim (atLeast 65537 t) [ true ↦ refused 1 0 | false ↦ decodeFrom 4096 0 0 0 t ]
+decode t = pick (ltb 65536 (length t)) (refused 1 0) (decodeFrom 4096 0 0 0 t)
 
 -- tokens as a table holds them
 unfoldable pub encodeTokens : List Token → Bytes

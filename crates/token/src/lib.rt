@@ -1,1 +1,286 @@
-// token
+// Token tables: the check of document 01 (R1 to R7), and the walk over a table that passed it.
+ghost use mathlib.Core.Path.{_≡_};
+ghost use Prim.Native.Nat.{_+_, _≤_, _<_};
+ghost use mathlib.Core.Bool.{_&&_};
+ghost use lib.Dec.{leb};
+ghost use lib.ListN.{length, drop};
+ghost use Rattle.wire.specs.Le.{leNumber};
+ghost use Rattle.identifier.specs.Byte.{within, isPrintable};
+ghost use Rattle.token.specs.Kind.{kInteger};
+ghost use Rattle.token.specs.Payload.{isNameStart, isNameByte, isPathByte, isIdentifier, isPath, isParagraph, isComment, isPayload};
+ghost use Rattle.token.specs.Table.{isWhole, rowAfter, faultOf};
+ghost use Rattle.token.specs.Checked.{checked};
+ghost use Rattle.token.specs.Places.{tokAt, nextAt, Wf};
+
+pub mod kind;
+
+fn is_name_start(b: u8) -> bool
+    ensures { λ r. ⌜ r ≡ isNameStart b ⌝ }
+{
+    (((b'A' <= b) & (b <= b'Z')) | ((b'a' <= b) & (b <= b'z'))) | (b == b'_')
+}
+
+fn is_name_byte(b: u8) -> bool
+    ensures { λ r. ⌜ r ≡ isNameByte b ⌝ }
+{
+    (((b'A' <= b) & (b <= b'Z')) | ((b'a' <= b) & (b <= b'z')))
+        | (((b'0' <= b) & (b <= b'9')) | ((b == b'_') | (b == b'-')))
+}
+
+fn is_printable(b: u8) -> bool
+    ensures { λ r. ⌜ r ≡ isPrintable b ⌝ }
+{
+    (b' ' <= b) & (b <= b'~')
+}
+
+fn is_path_byte(b: u8) -> bool
+    ensures { λ r. ⌜ r ≡ isPathByte b ⌝ }
+{
+    ((b' ' <= b) & (b <= b'~')) & (b != b'\'')
+}
+
+fn is_identifier(p: &[u8]) -> bool
+    ensures { λ r. ⌜ r ≡ isIdentifier (now (p .entry)) ⌝ }
+{
+    if p.len() < 1 {
+        return false;
+    }
+    if 128 < p.len() {
+        return false;
+    }
+    if !is_name_start(p[0]) {
+        return false;
+    }
+    let mut i = 0;
+    while i < p.len() {
+        if !is_name_byte(p[i]) {
+            return false;
+        }
+        i += 1;
+    }
+    true
+}
+
+fn is_path(p: &[u8]) -> bool
+    ensures { λ r. ⌜ r ≡ isPath (now (p .entry)) ⌝ }
+{
+    if 128 < p.len() {
+        return false;
+    }
+    let mut i = 0;
+    while i < p.len() {
+        if !is_path_byte(p[i]) {
+            return false;
+        }
+        i += 1;
+    }
+    true
+}
+
+fn is_paragraph(p: &[u8]) -> bool
+    ensures { λ r. ⌜ r ≡ isParagraph (now (p .entry)) ⌝ }
+{
+    if p.len() < 1 {
+        return false;
+    }
+    if 1024 < p.len() {
+        return false;
+    }
+    let mut gap = true;
+    let mut i = 0;
+    while i < p.len() {
+        let b = p[i];
+        if !is_printable(b) {
+            return false;
+        }
+        let space = b == b' ';
+        if gap & space {
+            return false;
+        }
+        gap = space;
+        i += 1;
+    }
+    !gap
+}
+
+fn is_comment(p: &[u8]) -> bool
+    ensures { λ r. ⌜ r ≡ isComment (now (p .entry)) ⌝ }
+{
+    if p.len() < 1 {
+        return false;
+    }
+    let mut left: usize = 32;
+    let mut at = 0;
+    while at < p.len() {
+        if left == 0 {
+            return false;
+        }
+        if p.len() - at < 2 {
+            return false;
+        }
+        let size = wire::u16_at(p, at) as usize;
+        if p.len() - at < 2 + size {
+            return false;
+        }
+        if !is_paragraph(&p[at + 2..at + 2 + size]) {
+            return false;
+        }
+        left -= 1;
+        at = at + 2 + size;
+    }
+    true
+}
+
+fn is_payload(kind: u16, p: &[u8]) -> bool
+    ensures { λ r. ⌜ r ≡ isPayload kind (now (p .entry)) ⌝ }
+{
+    if kind == kind::IDENTIFIER {
+        return is_identifier(p);
+    }
+    if kind == kind::PATH {
+        return is_path(p);
+    }
+    if kind == kind::INTEGER {
+        return p.len() == 8;
+    }
+    if kind == kind::COMMENT {
+        return is_comment(p);
+    }
+    p.len() == 0
+}
+
+fn is_whole(bs: &[u8]) -> bool
+    ensures { λ r. ⌜ r ≡ isWhole (now (bs .entry)) ⌝ }
+{
+    if bs.len() < 12 {
+        return false;
+    }
+    let size = wire::u16_at(bs, 0) as usize;
+    if size < 12 {
+        return false;
+    }
+    size <= bs.len()
+}
+
+fn is_kind(kind: u16) -> bool
+    ensures { λ r. ⌜ r ≡ within 1 25 kind ⌝ }
+{
+    (1 <= kind) & (kind <= 25)
+}
+
+fn is_ordered(last: u32, start: u32, end: u32) -> bool
+    ensures { λ r. ⌜ r ≡ (leb last start && leb start end) ⌝ }
+{
+    (last <= start) & (start <= end)
+}
+
+fn row_after(row: usize, kind: u16) -> usize
+    requires { ⌜ row ≤ 64 ⌝ }
+    ensures { λ r. ⌜ r ≡ rowAfter row kind ⌝ }
+{
+    if kind == kind::LEFT_SQUARE {
+        return row + 1;
+    }
+    0
+}
+
+// The number that the record at the front of these bytes is refused with; 0 for none.
+fn fault(bs: &[u8], last: u32, row: usize) -> u16
+    requires { ⌜ row ≤ 64 ⌝ }
+    ensures { λ r. ⌜ r ≡ faultOf last row (now (bs .entry)) ⌝ }
+{
+    if !is_whole(bs) {
+        return 2;
+    }
+    let kind = wire::u16_at(bs, 2);
+    if !is_kind(kind) {
+        return 3;
+    }
+    let size = wire::u16_at(bs, 0) as usize;
+    if !is_payload(kind, &bs[12..size]) {
+        return 4;
+    }
+    if !is_ordered(last, wire::u32_at(bs, 4), wire::u32_at(bs, 8)) {
+        return 5;
+    }
+    if 64 < row_after(row, kind) {
+        return 7;
+    }
+    0
+}
+
+pub enum Checked {
+    Refused(u16, usize),
+    Fine(usize, u32),
+}
+
+pub fn check(t: &[u8]) -> Checked
+    ensures { λ r. ⌜ r ≡ checked (now (t .entry)) ⌝ }
+{
+    if 65536 < t.len() {
+        return Checked::Refused(1, 0);
+    }
+    let mut at: usize = 0;
+    let mut count: usize = 0;
+    let mut last: u32 = 0;
+    let mut row: usize = 0;
+    while at < t.len() {
+        if count == 4096 {
+            return Checked::Refused(6, at);
+        }
+        let bs = &t[at..];
+        let number = fault(bs, last, row);
+        if number != 0 {
+            return Checked::Refused(number, at);
+        }
+        last = wire::u32_at(bs, 8);
+        row = row_after(row, wire::u16_at(bs, 2));
+        count += 1;
+        at += wire::u16_at(bs, 0) as usize;
+    }
+    Checked::Fine(count, last)
+}
+
+// The walk over a table that passed the check: what stands at a place, and the place after it.
+pub fn kind_at(t: &[u8], at: usize) -> u16
+    requires { ⌜ (Wf (now t) at) × (at < length (now t)) ⌝ }
+    ensures { λ r. ⌜ r ≡ tokAt (now (t .entry)) at .kind ⌝ }
+{
+    wire::u16_at(t, at + 2)
+}
+
+pub fn start_at(t: &[u8], at: usize) -> u32
+    requires { ⌜ (Wf (now t) at) × (at < length (now t)) ⌝ }
+    ensures { λ r. ⌜ r ≡ tokAt (now (t .entry)) at .start ⌝ }
+{
+    wire::u32_at(t, at + 4)
+}
+
+pub fn end_at(t: &[u8], at: usize) -> u32
+    requires { ⌜ (Wf (now t) at) × (at < length (now t)) ⌝ }
+    ensures { λ r. ⌜ r ≡ tokAt (now (t .entry)) at .end ⌝ }
+{
+    wire::u32_at(t, at + 8)
+}
+
+pub fn payload_at(t: &[u8], at: usize) -> &[u8]
+    requires { ⌜ (Wf (now t) at) × (at < length (now t)) ⌝ }
+    ensures { λ r. ⌜ now r ≡ tokAt (now (t .entry)) at .payload ⌝ }
+{
+    let size = wire::u16_at(t, at) as usize;
+    &t[at + 12..at + size]
+}
+
+pub fn integer_at(t: &[u8], at: usize) -> u64
+    requires { ⌜ (Wf (now t) at) × (at < length (now t)) × (tokAt (now t) at .kind ≡ kInteger) ⌝ }
+    ensures { λ r. ⌜ r ≡ leNumber (tokAt (now (t .entry)) at .payload) ⌝ }
+{
+    wire::u64_at(t, at + 12)
+}
+
+pub fn next_at(t: &[u8], at: usize) -> usize
+    requires { ⌜ (Wf (now t) at) × (at < length (now t)) ⌝ }
+    ensures { λ r. ⌜ r ≡ nextAt (now (t .entry)) at ⌝ }
+{
+    at + wire::u16_at(t, at) as usize
+}
