@@ -1,6 +1,8 @@
 -- Document 01, "Names": the snake, camel and Pascal forms of a name, from its words. A name of no words, as `_`, has empty forms.
-use Prim.Native.Nat.{ℕ}
+use mathlib.Core.Path.{_≡_}
+use Prim.Native.Nat.{ℕ, _-_, _≤_}
 use mathlib.Core.List.{List, [], _∷_, _++_, map}
+use lib.ListN.{length, replicate}
 use Rattle.wire.specs.Bytes.{Bytes}
 use Rattle.identifier.specs.Byte.{lowerOf, upperOf}
 use Rattle.identifier.specs.Words.{wordsOf}
@@ -40,3 +42,9 @@ camelOf name = joined low up (wordsOf name)
 -- all words capitalised
 unfoldable pub pascalOf : Bytes → Bytes
 pascalOf name = joined up up (wordsOf name)
+
+-- a form as it is held: filled up to its length, zeros behind, and always room for it
+pub record IsForm (bytes : Bytes) (len : ℕ) (form : Bytes) : Type 0 where
+  pub size : len ≡ length form
+  pub filled : bytes ≡ form ++ replicate (256 - length form) 0
+  pub fits : len ≤ 255

@@ -1,5 +1,7 @@
 -- The definitions of names, in document 01's order.
 pub mod Byte
+pub mod Table
 pub mod Words
 pub mod Forms
+pub mod Left
 pub mod Order

@@ -1,0 +1,71 @@
+-- Two forms are compared by their first bytes, and by what follows where those are one.
+use mathlib.Core.Path.{_≡_, refl, ap, ap₂, sym, _∙_}
+use mathlib.Core.Bool.{Bool, true, false}
+use mathlib.Core.List.{List, [], _∷_}
+use Prim.Native.Nat.{ℕ, suc, _+_, _<_, _≤_}
+use native.Mathlib.Omega.{arith}
+use borrow.Author.Tests.{lt-ltb, le-ltb}
+use lib.ListN.{length, drop}
+use Rattle.wire.specs.Bytes.{Bytes}
+use Rattle.wire.specs.Pick.{pick}
+use Rattle.identifier.specs.Forms.{low, barLow, snakeOf}
+use Rattle.identifier.specs.Left.{leftOf, headOf, tailOf, Follows}
+use Rattle.identifier.specs.Order.{orderOf, nameOrder}
+use Rattle.identifier.specs.declared.Next.{Next}
+use Rattle.identifier.specs.declared.Order.{Order}
+use Rattle.identifier.specs.declared.Order.the-variants.{Less, Equal, Greater}
+
+heads-below : (x y : Bytes) → headOf x < headOf y → orderOf x y ≡ Less
+unfolding pick
+heads-below [] [] h = absurd (omega arith)
+heads-below [] (b ∷ y) h = refl
+heads-below (a ∷ x) [] h = absurd (omega arith)
+heads-below (a ∷ x) (b ∷ y) h = rw (lt-ltb a b (omega arith))
+
+heads-above : (x y : Bytes) → headOf y < headOf x → orderOf x y ≡ Greater
+unfolding pick
+heads-above [] [] h = absurd (omega arith)
+heads-above [] (b ∷ y) h = absurd (omega arith)
+heads-above (a ∷ x) [] h = refl
+heads-above (a ∷ x) (b ∷ y) h = rw (le-ltb a b (omega arith), lt-ltb b a (omega arith))
+
+both-end : (x y : Bytes) → headOf x ≡ 0 → headOf y ≡ 0 → orderOf x y ≡ Equal
+both-end [] [] e f = refl
+both-end [] (b ∷ y) e f = absurd (omega arith)
+both-end (a ∷ x) y e f = absurd (omega arith)
+
+heads-same : (x y : Bytes) → headOf x ≡ headOf y → orderOf x y ≡ orderOf (tailOf x) (tailOf y)
+unfolding pick
+heads-same [] [] e = refl
+heads-same [] (b ∷ y) e = absurd (omega arith)
+heads-same (a ∷ x) [] e = absurd (omega arith)
+heads-same (a ∷ x) (b ∷ y) e = rw (le-ltb a b (omega arith), le-ltb b a (omega arith))
+
+-- what is left of a snake form
+abbrev snakeLeft : Bytes → ℕ → ℕ → Bytes
+snakeLeft name at state = leftOf low barLow state (drop at name)
+
+-- from these places on the two forms are ordered as the names are
+pub record Level (a b : Bytes) (i s j t : ℕ) : Type 0 where
+  pub order : nameOrder a b ≡ orderOf (snakeLeft a i s) (snakeLeft b j t)
+
+pub start : (a b : Bytes) → Level a b 0 0 0 0
+unfolding nameOrder snakeOf
+start a b = record { order = refl }
+
+module _ {a b : Bytes} {i s j t : ℕ} (g : Level a b i s j t) {x y : Next} (f : Follows false true a i s x) (h : Follows false true b j t y) where
+  pub below : x .code < y .code → Less ≡ nameOrder a b
+  below l = sym (g .order ∙ heads-below (snakeLeft a i s) (snakeLeft b j t) (rw (← f .head, ← h .head) l))
+
+  pub above : y .code < x .code → Greater ≡ nameOrder a b
+  above l = sym (g .order ∙ heads-above (snakeLeft a i s) (snakeLeft b j t) (rw (← f .head, ← h .head) l))
+
+  module _ (k : y .code ≤ x .code) (l : x .code ≤ y .code) where
+    one : x .code ≡ y .code
+    one = omega arith
+
+    pub same : x .code ≡ 0 → Equal ≡ nameOrder a b
+    same z = sym (g .order ∙ both-end (snakeLeft a i s) (snakeLeft b j t) (sym (f .head) ∙ z) (sym (h .head) ∙ sym one ∙ z))
+
+    pub further : Level a b (x .at) (x .state) (y .at) (y .state)
+    further = record { order = g .order ∙ heads-same (snakeLeft a i s) (snakeLeft b j t) (sym (f .head) ∙ one ∙ h .head) ∙ ap₂ orderOf (sym (f .tail)) (sym (h .tail)) }

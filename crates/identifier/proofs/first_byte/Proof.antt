@@ -1,0 +1,16 @@
+-- `identifier::first_byte`: each return by the test that led there.
+use borrow.Author.Needs.{needs}
+use Rattle.wire.proofs.Choice.{choice}
+use Rattle.identifier.proofs.first_byte.Statement.{statement}
+use Rattle.identifier.proofs.first_byte.Tie as tie
+
+returns : tie.Need-returns
+returns c = (rw (← c .before .upper-in .ensures) (search choice), search needs)
+
+returns-2 : tie.Need-returns-2
+returns-2 c = (rw (← c .before .lower-in .ensures) (search choice), search needs)
+
+pub first-byte-spec : {M : Type 1} → statement M
+first-byte-spec =
+    tie.close
+    (tie.spec (λ c κs. search needs) (λ c κs. search needs) returns (λ c κs. search needs) (λ c κs. search needs) returns-2)

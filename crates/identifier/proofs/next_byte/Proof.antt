@@ -1,0 +1,34 @@
+-- `identifier::next_byte`: the loop has passed over breaks (`Passed`).
+use mathlib.Core.Path.{refl}
+use Prim.Native.Nat.{_-_}
+use lib.ListN.{length}
+use Rattle.identifier.proofs.Left.{Passed, passed, at-word, at-end}
+use borrow.Author.Needs.{needs}
+use Rattle.identifier.proofs.next_byte.Statement.{statement}
+use Rattle.identifier.proofs.next_byte.Tie as tie
+
+abbrev Inv-loop : tie.InvT-loop
+Inv-loop class lower upper name up bar at state i₀ s₀ i s = Passed up bar name i₀ s₀ i s
+
+abbrev μ-loop : tie.MeasureT-loop
+μ-loop class lower upper name up bar at state i₀ s₀ i s = length name - i
+
+loop-holds : tie.Need-loop-holds Inv-loop μ-loop
+loop-holds c = record { same = refl }
+
+loop-again : tie.Need-loop-again Inv-loop μ-loop
+loop-again c = search passed
+
+word-byte-requires : tie.Need-word-byte-requires Inv-loop μ-loop
+word-byte-requires c κs = (search needs, search needs, cc)
+
+returns : tie.Need-returns Inv-loop μ-loop
+returns c = search at-word
+
+returns-2 : tie.Need-returns-2 Inv-loop μ-loop
+returns-2 c = search at-end
+
+pub next-byte-spec : {M : Type 1} → statement M
+next-byte-spec =
+    tie.close
+    (tie.spec Inv-loop μ-loop loop-holds (λ c. search needs) (λ c κs. search needs) (λ c. search needs) (λ c κs. search needs) (λ c. search needs) loop-again word-byte-requires returns returns-2)
