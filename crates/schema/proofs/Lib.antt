@@ -7,3 +7,6 @@ pub mod Payloads
 pub mod ReadBack
 pub mod InOrder
 pub mod RoundTrip
+pub mod PayloadsRead
+pub mod WriteBack
+pub mod RecordsBack

@@ -117,3 +117,11 @@ schemaOf rs = record { comment = openingOf rs; imports = importsOf rs; declarati
 -- nothing exactly where the number is R9
 unfoldable pub decodeSchema : Bytes → Option Schema
 decodeSchema t = pick (isSchemaTable t) (some (schemaOf (recordsOf t))) none
+
+-- A record as encoding writes it: 101 and 106 have the range 0,0. Decoding doesn't judge ranges.
+abbrev pub settled : Token → Token
+settled r =
+    elim (eqb (r .kind) sComment || eqb (r .kind) sDeleted) [
+      | true ↦ record { kind = r .kind; start = 0; end = 0; payload = r .payload }
+      | false ↦ r
+    ]
