@@ -5,3 +5,5 @@ pub mod Places
 pub mod Comment
 pub mod Cases
 pub mod Walk
+pub mod Parts
+pub mod Types

@@ -34,6 +34,10 @@ module _ {t : Bytes} {at : ℕ} {may : ℕ → Bool} (s : Stands t at may) where
   pub end-may : length t ≤ at → may 0 ≡ true
   end-may h = sym (s .follows 0) ∙ rw (at-end h) at (s .right)
 
+-- a payload, as code cuts it out of the table
+pub payload-part : (t : Bytes) (at : ℕ) {next : ℕ} → next ≡ nextAt t at → take (next - (at + 12)) (drop (at + 12) t) ≡ payloadAt t at
+payload-part t at e = rw e
+
 -- the record at a place where the table goes on
 pub record Record (t : Bytes) (at : ℕ) (may : ℕ → Bool) : Type 0 where
   pub head : at + 12 ≤ nextAt t at
@@ -69,12 +73,12 @@ record-at {t} {at} {may} s h =
       right = rw (k, p) at (both (isPayload (r .kind) (r .payload)) _ (g .1) .0);
       records = rs;
       next = λ then e.
-        record {
-          inside = omega arith;
-          framed = rw drop-drop at (sym (framed-step bs w) ∙ s .framed);
-          before = r;
-          row = rowOf (s .row) r;
-          follows = λ j. rw k (e j);
-          right = f .1;
-        };
+          record {
+            inside = omega arith;
+            framed = rw (drop-drop (sizeOf bs) at t) at (sym (framed-step bs w) ∙ s .framed);
+            before = r;
+            row = rowOf (s .row) r;
+            follows = λ j. rw k (e j);
+            right = f .1;
+          };
     }

@@ -73,17 +73,17 @@ plainText kind =
 
 abbrev pub customText : Option Bytes → Bytes → Bytes
 customText none name = pascalOf name
-customText (some «import») name = snakeOf «import» ++ bytes "." ++ pascalOf name
+customText (some import) name = snakeOf import ++ bytes "." ++ pascalOf name
 
 abbrev pub typeText : TypeVariant → Bytes
 typeText (array range inner) = bytes "[" ++ typeText inner ++ bytes "]"
 typeText (plain range kind) = plainText kind
-typeText (custom range «import» name) = customText «import» name
+typeText (custom range import name) = customText import name
 
 abbrev pub isUnit : TypeVariant → Bool
 isUnit (array range inner) = false
 isUnit (plain range kind) = eqb kind kUnit
-isUnit (custom range «import» name) = false
+isUnit (custom range import name) = false
 
 abbrev pub ruleText : Rule → Bytes
 ruleText required = []

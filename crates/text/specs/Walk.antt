@@ -8,7 +8,13 @@ use lib.ListN.{length, take, drop}
 use Rattle.wire.specs.Bytes.{Bytes}
 use Rattle.wire.specs.Le.{u16At}
 use Rattle.token.specs.Token.{Token}
-use Rattle.schema.specs.Kind.{sField, sDeleted}
+use Rattle.wire.specs.Pick.{pick}
+use Rattle.schema.specs.Ast.{TypeVariant}
+use Rattle.schema.specs.Kind.{sField, sDeleted, sPlain}
+use Rattle.schema.specs.Payload.{nameOf, afterName}
+use Rattle.schema.specs.Decode.{typeOf, optional}
+use Rattle.schema.specs.Limits.{nesting}
+use Rattle.text.specs.Text.{plainText, customText}
 use Rattle.schema.specs.Table.{recordsOf, isFramed, isOutside, mayFollow, areNext}
 
 abbrev pub recordsFrom : Bytes → ℕ → List Token
@@ -36,3 +42,14 @@ pub record Stands (t : Bytes) (at : ℕ) (may : ℕ → Bool) : Type 0 where
   pub row : ℕ
   pub follows : (k : ℕ) → mayFollow (before .kind) k ≡ may k
   pub right : areNext before row (recordsFrom t at) ≡ true
+
+-- the type that begins at a place, and how many arrays it has
+abbrev pub typeAt : Bytes → ℕ → TypeVariant
+typeAt t at = typeOf (recordsFrom t at)
+
+abbrev pub depthAt : Bytes → ℕ → ℕ
+depthAt t at = nesting (typeAt t at)
+
+-- the text of a type that is no array, from its record's kind and payload
+unfoldable pub baseText : ℕ → Bytes → Bytes
+baseText kind p = pick (eqb kind sPlain) (plainText (u16At p 0)) (customText (optional (nameOf p)) (afterName p))

@@ -1,16 +1,38 @@
 // The canonical text of a schema, as schema.rs writes it.
+use identifier::Order;
 ghost use mathlib.Core.Path.{_≡_};
-ghost use mathlib.Core.Bool.{true};
-ghost use Prim.Native.Nat.{_≤_};
-ghost use lib.ListN.{length};
+ghost use mathlib.Core.Bool.{true, false, not, _&&_};
+ghost use mathlib.Core.List.{flatMap};
+ghost use Prim.Native.Nat.{_+_, _*_, _≤_};
+ghost use lib.Dec.{eqb};
+ghost use lib.ListN.{length, getD, drop};
 ghost use Rattle.wire.specs.Put.{Wrote};
+ghost use Rattle.wire.specs.Le.{u16At};
+ghost use Rattle.token.specs.Kind.{kUnit};
 ghost use Rattle.token.specs.Payload.{areParagraphs, paragraphsOf};
-ghost use Rattle.schema.specs.Decode.{optional, ruleOf, variantOf};
-ghost use Rattle.schema.specs.Payload.{indicesOf};
+ghost use Rattle.schema.specs.Kind.{sArray, sPlain};
+ghost use Rattle.schema.specs.Payload.{isImport, isDeclaration, isField, isDeleted, isPayload, nameOf, afterName, indicesOf};
+ghost use Rattle.schema.specs.Table.{isType};
+ghost use Rattle.schema.specs.Decode.{optional, ruleOf, variantOf, commentOf, typeOf};
 ghost use Rattle.text.specs.Wrap.{wordEnd};
-ghost use Rattle.text.specs.Text.{blank, lineText, paragraphText, mark, commentText, isInferred, importText, plainText, customText, ruleText};
+ghost use Rattle.text.specs.Text.{blank, lineText, paragraphText, mark, commentText, isEmpty, isInferred, importText, plainText, customText, typeText, ruleText, fieldName, fieldType, fieldIndex, indexText, deletedText, variantText, headText};
+ghost use Rattle.text.specs.Walk.{kindAt, nextAt, typeAt, depthAt, baseText, Stands};
 
 const MAX_COLUMNS: usize = 79;
+
+const COMMENT: u16 = 101;
+
+const IMPORT: u16 = 102;
+
+const STRUCT: u16 = 103;
+
+const FIELD: u16 = 105;
+
+const DELETED: u16 = 106;
+
+const ARRAY: u16 = 107;
+
+const PLAIN: u16 = 108;
 
 const BOOL: u16 = 3;
 
@@ -107,6 +129,34 @@ fn put_blank(out: &mut [u8], at: usize, b: bool) -> usize
     at
 }
 
+fn is_inferred(name: &[u8], path: &[u8]) -> bool
+    ensures { λ r. ⌜ r ≡ isInferred (now (name .entry)) (now (path .entry)) ⌝ }
+{
+    let inferred = stem::stem(path);
+    if inferred.len() == 0 {
+        return false;
+    }
+    match identifier::compare(inferred, name) {
+        Order::Equal => true,
+        Order::Less => false,
+        Order::Greater => false,
+    }
+}
+
+fn put_import(out: &mut [u8], at: usize, name: &[u8], path: &[u8]) -> usize
+    requires { ⌜ length (now name) ≤ 128 ⌝ }
+    ensures { λ r. ⌜ Wrote (now (out .entry)) at (importText (now (name .entry)) (now (path .entry))) (now (out .exit)) r ⌝ }
+{
+    let a = wire::put_slice(out, at, b"import '");
+    let b = wire::put_slice(out, a, path);
+    if is_inferred(name, path) {
+        return wire::put_slice(out, b, b"'\n");
+    }
+    let c = wire::put_slice(out, b, b"' as ");
+    let d = identifier::put_snake(out, c, name);
+    wire::put_byte(out, d, b'\n')
+}
+
 fn put_plain(out: &mut [u8], at: usize, kind: u16) -> usize
     ensures { λ r. ⌜ Wrote (now (out .entry)) at (plainText kind) (now (out .exit)) r ⌝ }
 {
@@ -131,6 +181,19 @@ fn put_plain(out: &mut [u8], at: usize, kind: u16) -> usize
     wire::put_slice(out, at, b"Unit")
 }
 
+// A custom type, whose import's name is empty where it has none.
+fn put_custom(out: &mut [u8], at: usize, import: &[u8], name: &[u8]) -> usize
+    requires { ⌜ (length (now import) ≤ 128) × (length (now name) ≤ 128) ⌝ }
+    ensures { λ r. ⌜ Wrote (now (out .entry)) at (customText (optional (now (import .entry))) (now (name .entry))) (now (out .exit)) r ⌝ }
+{
+    if import.len() == 0 {
+        return identifier::put_pascal(out, at, name);
+    }
+    let a = identifier::put_snake(out, at, import);
+    let b = wire::put_byte(out, a, b'.');
+    identifier::put_pascal(out, b, name)
+}
+
 fn put_rule(out: &mut [u8], at: usize, rule: u8) -> usize
     ensures { λ r. ⌜ Wrote (now (out .entry)) at (ruleText (ruleOf rule)) (now (out .exit)) r ⌝ }
 {
@@ -141,4 +204,65 @@ fn put_rule(out: &mut [u8], at: usize, rule: u8) -> usize
         return wire::put_slice(out, at, b"asymmetric ");
     }
     wire::put_slice(out, at, b"optional ")
+}
+
+fn kind_at(t: &[u8], at: usize) -> u16
+    requires { ⌜ at + 4 ≤ length (now t) ⌝ }
+    ensures { λ r. ⌜ r ≡ kindAt (now (t .entry)) at ⌝ }
+{
+    wire::u16_at(t, at + 2)
+}
+
+// The place after the record at a place.
+fn next_at(t: &[u8], at: usize) -> usize
+    requires { ⌜ (at + 2 ≤ length (now t)) × (nextAt (now t) at ≤ length (now t)) ⌝ }
+    ensures { λ r. ⌜ r ≡ nextAt (now (t .entry)) at ⌝ }
+{
+    at + (wire::u16_at(t, at) as usize)
+}
+
+// The place of the type inside all arrays of a type.
+fn innermost(t: &[u8], from: usize) -> usize
+    requires { ⌜ Stands (now t) from isType ⌝ }
+    ensures { λ r. ⌜ r ≡ from + 12 * depthAt (now (t .entry)) from ⌝ }
+{
+    let mut at = from;
+    while kind_at(t, at) == ARRAY {
+        at += 12;
+    }
+    at
+}
+
+// A plain type or a custom one.
+fn put_base(out: &mut [u8], at: usize, kind: u16, p: &[u8]) -> usize
+    requires { ⌜ (isType kind ≡ true) × (eqb kind sArray ≡ false) × (isPayload kind (now p) ≡ true) ⌝ }
+    ensures { λ r. ⌜ Wrote (now (out .entry)) at (baseText kind (now (p .entry))) (now (out .exit)) r ⌝ }
+{
+    if kind == PLAIN {
+        return put_plain(out, at, wire::u16_at(p, 0));
+    }
+    let end = 2 + (wire::u16_at(p, 0) as usize);
+    put_custom(out, at, &p[2..end], &p[end..])
+}
+
+// Type and TypeVariant write each other; `left` is the number of arrays still inside.
+fn put_type(out: &mut [u8], at: usize, t: &[u8], from: usize, left: usize) -> usize
+    requires { ⌜ Stands (now t) from isType × (left ≡ depthAt (now t) from) ⌝ }
+    ensures { λ r. ⌜ Wrote (now (out .entry)) at (typeText (typeAt (now (t .entry)) from)) (now (out .exit)) r ⌝ }
+{
+    put_variant(out, at, t, from, left)
+}
+
+fn put_variant(out: &mut [u8], at: usize, t: &[u8], from: usize, left: usize) -> usize
+    requires { ⌜ Stands (now t) from isType × (left ≡ depthAt (now t) from) ⌝ }
+    ensures { λ r. ⌜ Wrote (now (out .entry)) at (typeText (typeAt (now (t .entry)) from)) (now (out .exit)) r ⌝ }
+{
+    let kind = kind_at(t, from);
+    if kind == ARRAY {
+        let a = wire::put_byte(out, at, b'[');
+        let b = put_type(out, a, t, from + 12, left - 1);
+        return wire::put_byte(out, b, b']');
+    }
+    let next = next_at(t, from);
+    put_base(out, at, kind, &t[from + 12..next])
 }
