@@ -1,0 +1,3 @@
+-- The laws of namespaces and answers.
+pub mod Answers
+pub mod Cases
