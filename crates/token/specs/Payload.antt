@@ -93,3 +93,7 @@ paragraphsOf = paragraphsIn 32
 unfoldable pub paragraphBytes : List Bytes → Bytes
 paragraphBytes [] = []
 paragraphBytes (p ∷ ps) = leBytes 2 (length p) ++ p ++ paragraphBytes ps
+
+abbrev pub allParagraphs : List Bytes → Bool
+allParagraphs [] = true
+allParagraphs (p ∷ ps) = isParagraph p && allParagraphs ps

@@ -31,4 +31,5 @@ pub record Wf (t : Bytes) (at : ℕ) : Type 0 where
   pub few : left ≤ 4096
   pub last : ℕ
   pub row : ℕ
+  pub shallow : row ≤ 64
   pub good : decodeFrom left at last row (drop at t) ≡ tokens (tokensFrom t at)
