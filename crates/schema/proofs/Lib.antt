@@ -10,3 +10,4 @@ pub mod RoundTrip
 pub mod PayloadsRead
 pub mod WriteBack
 pub mod RecordsBack
+pub mod Walk

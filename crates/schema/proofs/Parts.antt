@@ -18,7 +18,8 @@ use Rattle.token.specs.Payload.{atLeast, isParagraph, areParagraphs, paragraphO
 use Rattle.schema.specs.Limits.{Each}
 use Rattle.schema.specs.Encode.{sized, counted, indices}
 use Rattle.schema.specs.Payload.{nameOf, afterName, isSized, indicesIn, indicesOf}
-use Rattle.schema.proofs.Records.{both, atLeast-le, le-atLeast}
+use Rattle.token.proofs.Laws.{atLeast-length}
+use Rattle.schema.proofs.Records.{both}
 
 -- bytes of bytes
 pub bytes-take : (n : ℕ) (bs : Bytes) → AllBytes bs → AllBytes (take n bs)
@@ -66,17 +67,17 @@ module _ (name rest : Bytes) (f : length name < 65536) where
 
   pub after-name : afterName (sized name ++ rest) ≡ rest
   unfolding afterParagraph
-  after-name = rw sized-number (drop-at (sized name) rest (2 + length name) (sym sized-length))
+  after-name = rw (sized-number, drop-drop) (drop-at (sized name) rest (2 + length name) (sym sized-length))
 
   pub is-sized : isSized (sized name ++ rest) ≡ true
   unfolding isSized
   is-sized =
       let l : length (sized name ++ rest) ≡ 2 + length name + length rest = length-append (sized name) rest ∙ omega (arith, sized-length) in
-      rw (sized-number, le-atLeast 2 (sized name ++ rest) (omega arith), le-atLeast (2 + length name) (sized name ++ rest) (omega arith))
+      rw (sized-number, le-leb 2 (length (sized name ++ rest)) (omega arith), le-leb (2 + length name) (length (sized name ++ rest)) (omega arith))
 
 pub bytes-after : (p : Bytes) → AllBytes p → AllBytes (afterName p)
 unfolding afterParagraph
-bytes-after p a = bytes-drop (2 + u16At p 0) p a
+bytes-after p a = bytes-drop (u16At p 0) (drop 2 p) (bytes-drop 2 p a)
 
 -- and back: a name with its length, and what follows it
 pub record Sized (p : Bytes) : Type 0 where
@@ -86,14 +87,14 @@ pub record Sized (p : Bytes) : Type 0 where
 pub sized-facts : (p : Bytes) → isSized p ≡ true → Sized p
 unfolding isSized paragraphOf
 sized-facts p e =
-    let h = atLeast-le (2 + u16At p 0) p (both (atLeast 2 p) _ e .1) in
+    let h = leb-true (2 + u16At p 0) (length p) (both (leb 2 (length p)) _ e .1) in
     record { room = h; size = length-take (u16At p 0) (drop 2 p) ∙ simp length-drop (omega arith) }
 
 pub name-back : (p : Bytes) → Sized p → AllBytes p → sized (nameOf p) ++ afterName p ≡ p
 unfolding paragraphOf afterParagraph
 name-back p s a =
     let h = s .room in
-    rw (s .size, leBytes-leAt 2 p 0 (omega arith) a, ← (take-add 2 (u16At p 0) p)) (take-append-drop (2 + u16At p 0) p)
+    rw (s .size, leBytes-leAt 2 p 0 (omega arith) a, ← (take-add 2 (u16At p 0) p), drop-drop) (take-append-drop (2 + u16At p 0) p)
 
 -- paragraphs, each as a name stands
 paragraphs-step : (n : ℕ) (bs : Bytes) → 0 < length bs → paragraphsIn (suc n) bs ≡ paragraphOf bs ∷ paragraphsIn n (afterParagraph bs)
@@ -103,7 +104,9 @@ paragraphs-step n (b ∷ bs) h = refl
 are-step : (n : ℕ) (bs : Bytes) → 0 < length bs → areParagraphs (suc n) bs ≡ (isSized bs && (isParagraph (paragraphOf bs) && areParagraphs n (afterParagraph bs)))
 unfolding areParagraphs isSized
 are-step n [] h = absurd (omega arith)
-are-step n (b ∷ bs) h = sym (and-assoc (atLeast 2 (b ∷ bs)) (atLeast (2 + u16At (b ∷ bs) 0) (b ∷ bs)) _)
+are-step n (b ∷ bs) h =
+    let t = b ∷ bs in
+    rw (← atLeast-length 2 t, ← atLeast-length (2 + u16At t 0) t) (sym (and-assoc (atLeast 2 t) (atLeast (2 + u16At t 0) t) _))
 
 abbrev pub IsParagraph : Bytes → Type 0
 IsParagraph p = isParagraph p ≡ true

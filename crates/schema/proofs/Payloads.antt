@@ -21,7 +21,7 @@ use Rattle.schema.specs.Limits.{Each, RangeWithin, CommentWithin, Import
 use Rattle.schema.specs.Encode.{sized, counted, importPayload, importPart, ruleNumber, fieldPayload, indices, declarationPayload}
 use Rattle.schema.specs.Payload.{isName, isSized, isNamed, nameOf, afterName, isImport, isCounted, isDeclaration, isField, indicesOf, isDeleted, isPlainType, isCustom}
 use Rattle.schema.specs.Decode.{commentOf, optional, ruleOf}
-use Rattle.schema.proofs.Records.{both, atLeast-le, le-atLeast}
+use Rattle.schema.proofs.Records.{both}
 use Rattle.schema.proofs.Parts.{name-of, after-name, is-sized, sized-number, sized-length, ParagraphsWritten, paragraphs-written, indices-written, indices-length}
 
 pub record Short (name : Bytes) : Type 0 where
@@ -91,7 +91,7 @@ module _ (ps : List Bytes) (w : CommentWithin ps) where
   counted-is =
       let b = w .few in
       rw (
-        le-atLeast 2 (counted ps) (omega (arith, counted-length)),
+        le-leb 2 (length (counted ps)) (omega (arith, counted-length)),
         drop-at (leBytes 2 (length ps)) (paragraphBytes ps) 2 (leBytes-length 2 (length ps)),
         written .right,
         leAt-leBytes 2 (length ps) [] (paragraphBytes ps) 0 refl (omega arith),
@@ -114,7 +114,8 @@ comment-right p ps w =
     let v = written (p ∷ ps) w in
     let a = v .short in
     let b = w .few in
-    record { right = rw (v .right) (unfold paragraphBytes leBytes in refl); short = omega arith }
+    let l : 1 ≤ length (paragraphBytes (p ∷ ps)) = unfold paragraphBytes leBytes in omega arith in
+    record { right = rw (le-leb 1 (length (paragraphBytes (p ∷ ps))) l, v .right); short = omega arith }
 
 pub declaration-right : (d : Declaration) → DeclarationWithin d → Right isDeclaration (declarationPayload d)
 declaration-right d w =
@@ -154,7 +155,7 @@ module _ (f : Field) (w : FieldWithin f) where
       let l = field-length in
       record {
         right =
-            rw (le-atLeast 9 (fieldPayload f) (omega arith), body-is, rule-small (f .rule), commented-is (f .comment) (w .comment) (f .name) (w .name));
+            rw (le-leb 9 (length (fieldPayload f)) (omega arith), body-is, rule-small (f .rule), commented-is (f .comment) (w .comment) (f .name) (w .name));
         short = omega arith;
       }
     where
@@ -170,7 +171,7 @@ deleted-right n ns w =
     let l = indices-length (n ∷ ns) in
     let h = w .few in
     record {
-      right = rw (le-atLeast 1 all (omega arith), eq-eqb (length all % 8) 0 (omega arith), indices-written (n ∷ ns) (w .each), w .ascending);
+      right = rw (le-leb 1 (length all) (omega arith), eq-eqb (length all % 8) 0 (omega arith), indices-written (n ∷ ns) (w .each), w .ascending);
       short = omega arith;
     }
 

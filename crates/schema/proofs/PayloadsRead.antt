@@ -14,14 +14,14 @@ use Rattle.wire.specs.Le.{leBytes, leAt, u16At, u64At}
 use Rattle.wire.specs.Pick.{pick}
 use Rattle.wire.proofs.Numbers.{AllBytes}
 use Rattle.token.specs.Kind.{isPlain}
-use Rattle.token.specs.Payload.{atLeast, isPath, isComment, areParagraphs, paragraphOf, afterParagraph, paragraphsIn, paragraphsOf, paragraphBytes}
+use Rattle.token.specs.Payload.{isPath, isComment, areParagraphs, paragraphOf, afterParagraph, paragraphsIn, paragraphsOf, paragraphBytes}
 use Rattle.schema.specs.Ast.{Range, TypeVariant, Rule, Field, Import, DeclarationVariant, Declaration}
 use Rattle.schema.specs.Limits.{Each, RangeWithin, CommentWithin, ImportWithin, OptionWithin, FieldWithin, DeletedWithin, DeclarationWithin}
 use Rattle.schema.specs.Order.{isChain}
 use Rattle.schema.specs.Encode.{sized, counted, importPayload, importPart, ruleNumber, fieldPayload, indices, declarationPayload}
 use Rattle.schema.specs.Payload.{isName, isSized, isNamed, nameOf, afterName, isImport, isCounted, isDeclaration, isField, indicesIn, indicesOf, isDeleted, isPlainType, isCustom}
 use Rattle.schema.specs.Decode.{commentOf, optional, ruleOf}
-use Rattle.schema.proofs.Records.{both, atLeast-le}
+use Rattle.schema.proofs.Records.{both}
 use Rattle.schema.proofs.Parts.{leBytes-leAt, leAt-fits, bytes-drop, bytes-after, Sized, sized-facts, name-back, ParagraphsRead, paragraphs-read, IndicesRead, indices-read}
 
 module _ (p : Bytes) (a : AllBytes p) where
@@ -43,13 +43,13 @@ module _ (p : Bytes) (a : AllBytes p) where
   pub counted-read : isCounted p ≡ true → CountedRead
   unfolding isCounted paragraphsOf
   counted-read e =
-      let b = both (atLeast 2 p) _ e in
+      let b = both (leb 2 (length p)) _ e in
       let c = both (areParagraphs 32 (drop 2 p)) _ (b .1) in
       let r = paragraphs-read 32 (drop 2 p) (c .0) (bytes-drop 2 p a) in
       let n = eqb-true (u16At p 0) (length (paragraphsOf (drop 2 p))) (c .1) in
       record {
         within = record { few = r .few; each = r .each };
-        back = rw (← n, leBytes-leAt 2 p 0 (atLeast-le 2 p (b .0)) a, r .back) (take-append-drop 2 p);
+        back = rw (← n, leBytes-leAt 2 p 0 (leb-true 2 (length p) (b .0)) a, r .back) (take-append-drop 2 p);
       }
 
 module _ (p : Bytes) (a : AllBytes p) where
@@ -96,9 +96,9 @@ unfolding isField
 field-read [] a e = let z : _≡_ {A = ℕ} 0 1 = cc in absurd (omega arith)
 field-read (b ∷ q) a e =
     let p = b ∷ q in
-    let c = both (atLeast 9 p) _ e in
+    let c = both (leb 9 (length p)) _ e in
     let r = both (leb b 2) _ (c .1) in
-    let l = atLeast-le 9 p (c .0) in
+    let l = leb-true 9 (length p) (c .0) in
     let d = declaration-read (drop 9 p) (bytes-drop 9 p a) (r .1) in
     record {
       name = d .name;
@@ -127,9 +127,9 @@ pub record DeletedRead (p : Bytes) : Type 0 where
 pub deleted-read : (p : Bytes) → AllBytes p → 12 + length p < 65536 → isDeleted p ≡ true → DeletedRead p
 unfolding isDeleted indicesOf
 deleted-read p a h e =
-    let b = both (atLeast 1 p) _ e in
+    let b = both (leb 1 (length p)) _ e in
     let c = both (eqb (length p % 8) 0) _ (b .1) in
-    let l = atLeast-le 1 p (b .0) in
+    let l = leb-true 1 (length p) (b .0) in
     let m = eqb-true (length p % 8) 0 (c .0) in
     let r : IndicesRead (length p / 8) p = indices-read (length p / 8) p (omega arith) a in
     let n = r .count in
@@ -148,7 +148,7 @@ pub comment-read : (p : Bytes) → AllBytes p → isComment p ≡ true → Comme
 unfolding isComment paragraphsOf
 comment-read [] a e = let z : _≡_ {A = ℕ} 0 1 = cc in absurd (omega arith)
 comment-read (b ∷ q) a e =
-    let r = paragraphs-read 32 (b ∷ q) (both (atLeast 1 (b ∷ q)) _ e .1) a in
+    let r = paragraphs-read 32 (b ∷ q) (both (leb 1 (length (b ∷ q))) _ e .1) a in
     record { some = some-of (paragraphsOf (b ∷ q)) (omega arith); within = record { few = r .few; each = r .each }; back = r .back }
 
 pub record PlainRead (p : Bytes) : Type 0 where

@@ -1,13 +1,13 @@
 -- The records of a table, one after the other: at the front of its bytes, and as they were written.
 use mathlib.Core.Path.{_≡_, refl, sym, ap, _∙_}
-use mathlib.Core.Bool.{Bool, true, false, _&&_}
+use mathlib.Core.Bool.{Bool, true, false, _&&_, and-eq-true-iff}
 use mathlib.Core.List.{List, [], _∷_, _++_, append-assoc}
 use Prim.Native.Nat.{ℕ, zero, suc, _+_, _-_, _≤_, _<_}
 use native.Mathlib.Nat.{zero-add}
 use native.Mathlib.Numerals.{sub-one}
 use native.Mathlib.Omega.{arith}
-use borrow.Author.Tests.{leb-true, le-leb}
-use lib.Dec.{leb, leb·zero, leb·suc-zero, leb·suc-suc}
+use borrow.Author.Tests.{le-leb}
+use lib.Dec.{leb}
 use lib.ListN.{length, take, drop, length-append, length-drop}
 use lib.Seq.{take-at, drop-at}
 use Rattle.wire.specs.Bytes.{Bytes}
@@ -15,43 +15,20 @@ use Rattle.wire.specs.Le.{leBytes, leAt, u16At, u32At}
 use Rattle.wire.specs.Record.{headBytes, recordBytes}
 use Rattle.wire.proofs.Numbers.{leBytes-length, leAt-leBytes}
 use Rattle.token.specs.Token.{Token}
-use Rattle.token.specs.Payload.{atLeast}
 use Rattle.token.specs.Table.{sizeOf, tokenOf, isWhole, encodeTokens}
+use Rattle.token.proofs.Records.{fits, whole-is}
+pub use Rattle.token.proofs.Records.{Fits as Whole}
 use Rattle.schema.specs.Table.{recordsAfter, recordsOf, isFramedAfter, isFramed}
 
 -- both parts of a test hold
 pub both : (a b : Bool) → (a && b) ≡ true → (a ≡ true) × (b ≡ true)
-both true b e = (refl, e)
-both false b e = let z : _≡_ {A = ℕ} 0 1 = cc in absurd (omega arith)
-
-pub atLeast-length : (n : ℕ) (bs : Bytes) → atLeast n bs ≡ leb n (length bs)
-atLeast-length zero bs = sym (leb·zero (length bs))
-atLeast-length (suc n) [] = sym (leb·suc-zero n)
-atLeast-length (suc n) (b ∷ bs) = atLeast-length n bs ∙ sym (leb·suc-suc n (length bs))
-
-pub atLeast-le : (n : ℕ) (bs : Bytes) → atLeast n bs ≡ true → n ≤ length bs
-atLeast-le n bs e = leb-true n (length bs) (sym (atLeast-length n bs) ∙ e)
-
-pub le-atLeast : (n : ℕ) (bs : Bytes) → n ≤ length bs → atLeast n bs ≡ true
-le-atLeast n bs h = atLeast-length n bs ∙ le-leb n (length bs) h
-
-pub record Whole (bs : Bytes) : Type 0 where
-  pub head : 12 ≤ sizeOf bs
-  pub tail : sizeOf bs ≤ length bs
-
-pub whole : (bs : Bytes) → isWhole bs ≡ true → Whole bs
-unfolding isWhole
-whole bs e =
-    let a = both (atLeast 12 bs) _ e in
-    let b = both (leb 12 (sizeOf bs)) _ (a .1) in
-    record { head = leb-true 12 (sizeOf bs) (b .0); tail = atLeast-le (sizeOf bs) bs (b .1) }
+both a b e = and-eq-true-iff a b .0 e
 
 pub is-whole : (bs : Bytes) → Whole bs → isWhole bs ≡ true
-unfolding isWhole
 is-whole bs w =
     let h = w .head in
     let t = w .tail in
-    rw (le-atLeast 12 bs (omega arith), le-leb 12 (sizeOf bs) h, le-atLeast (sizeOf bs) bs t)
+    whole-is bs ∙ rw (le-leb 12 (length bs) (omega arith), le-leb 12 (sizeOf bs) h, le-leb (sizeOf bs) (length bs) t)
 
 -- bytes that are still to come are dropped
 records-after : (left : ℕ) (bs : Bytes) → recordsAfter left bs ≡ recordsOf (drop left bs)
@@ -86,7 +63,7 @@ framed-step (b ∷ bs) w =
 pub framed-whole : (bs : Bytes) → 0 < length bs → isFramed bs ≡ true → Whole bs
 unfolding isFramed
 framed-whole [] h e = absurd (omega arith)
-framed-whole (b ∷ bs) h e = whole (b ∷ bs) (both (isWhole (b ∷ bs)) _ e .0)
+framed-whole (b ∷ bs) h e = fits (b ∷ bs) (both (isWhole (b ∷ bs)) _ e .0)
 
 pub framed-not : (bs : Bytes) → 0 < length bs → isWhole bs ≡ false → isFramed bs ≡ false
 unfolding isFramed
@@ -145,8 +122,8 @@ module _ (r : Token) (f : Fits r) (rest : Bytes) where
   unfolding recordBytes
   record-length = rw (length-append, head-length)
 
-  pub whole-is : Whole at
-  whole-is =
+  pub stands-whole : Whole at
+  stands-whole =
       let s = size-is in
       record { head = omega arith; tail = rw length-append (omega (arith, record-length)) }
 
@@ -162,11 +139,11 @@ unfolding encodeTokens
 records-encode [] f = unfold recordsOf in refl
 records-encode (r ∷ rs) f =
     let rest = encodeTokens rs in
-    rw (records-step _ (whole-is r (f .0) rest), token-is r (f .0) rest, rest-is r (f .0) rest, records-encode rs (f .1))
+    rw (records-step _ (stands-whole r (f .0) rest), token-is r (f .0) rest, rest-is r (f .0) rest, records-encode rs (f .1))
 
 pub framed-encode : (rs : List Token) → AllFit rs → isFramed (encodeTokens rs) ≡ true
 unfolding encodeTokens
 framed-encode [] f = unfold isFramed in refl
 framed-encode (r ∷ rs) f =
     let rest = encodeTokens rs in
-    rw (framed-step _ (whole-is r (f .0) rest), rest-is r (f .0) rest, framed-encode rs (f .1))
+    rw (framed-step _ (stands-whole r (f .0) rest), rest-is r (f .0) rest, framed-encode rs (f .1))

@@ -20,7 +20,7 @@ use Rattle.schema.specs.Order.{isChainAfter, isChain}
 use Rattle.schema.specs.Limits.{Each, RangeWithin, CommentWithin, ImportWithin, TypeWithin, nesting, FieldWithin, DeletedWithin, DeclarationWithin, isEarlier, Within}
 use Rattle.schema.specs.Encode.{nowhere, indices}
 use Rattle.schema.specs.Payload.{nameOf, indicesOf, isPayload}
-use Rattle.schema.specs.Table.{mayFollow, isOutside, isType, isLater, rowOf, isNext, areNext, outset}
+use Rattle.schema.specs.Table.{mayFollow, isOutside, isImporting, isInside, isType, isLater, rowOf, isNext, areNext, outset}
 use Rattle.schema.specs.Decode.{rangeOf, openingOf, importOf, importsOf, typeOf, fieldsOf, deletedOf, declarationsOf, schemaOf, settled}
 use Rattle.schema.proofs.Records.{both, Fits}
 use Rattle.schema.proofs.PayloadsRead.{Some, import-read, declaration-read, field-read, deleted-read, comment-read, plain-read, custom-read}
@@ -63,12 +63,6 @@ record ImportParts (last : Token) (rs : List Token) : Type 0 where
 -- what may stand after a record
 abbrev After : Token → (ℕ → Bool) → Type 0
 After last f = (k : ℕ) → mayFollow (last .kind) k ≡ f k
-
-abbrev isInside : ℕ → Bool
-isInside k = eqb k sField || (eqb k sDeleted || isOutside k)
-
-abbrev isImporting : ℕ → Bool
-isImporting k = eqb k sImport || isOutside k
 
 record Parts (rs : List Token) : Type 0 where
   outside : (last : Token) (row : ℕ) → After last isOutside → areNext last row rs ≡ true → OutsideParts rs

@@ -6,4 +6,5 @@ pub mod Order
 pub mod Payload
 pub mod Table
 pub mod Decode
+pub mod Walk
 pub mod Limits

@@ -9,7 +9,7 @@ use Rattle.wire.specs.Le.{u16At, u64At}
 use Rattle.wire.specs.Pick.{pick}
 use Rattle.identifier.specs.Byte.{within, isPrintable}
 use Rattle.token.specs.Kind.{isPlain}
-use Rattle.token.specs.Payload.{all, atLeast, isPath, isComment, areParagraphs, paragraphOf, afterParagraph, paragraphsOf}
+use Rattle.token.specs.Payload.{all, isPath, isComment, areParagraphs, paragraphOf, afterParagraph, paragraphsOf}
 use Rattle.schema.specs.Kind.{sComment, sImport, sStruct, sChoice, sField, sDeleted, sArray, sPlain, sCustom}
 use Rattle.schema.specs.Order.{isChain}
 
@@ -26,7 +26,7 @@ afterName = afterParagraph
 
 -- a u16 length and as many bytes
 unfoldable pub isSized : Bytes → Bool
-isSized p = atLeast 2 p && atLeast (2 + u16At p 0) p
+isSized p = leb 2 (length p) && leb (2 + u16At p 0) (length p)
 
 unfoldable pub isNamed : Bytes → Bool
 isNamed p = isSized p && isName (nameOf p)
@@ -36,14 +36,14 @@ isImport p = isNamed p && isPath (afterName p)
 
 -- a count and as many paragraphs
 unfoldable pub isCounted : Bytes → Bool
-isCounted p = atLeast 2 p && (areParagraphs 32 (drop 2 p) && eqb (u16At p 0) (length (paragraphsOf (drop 2 p))))
+isCounted p = leb 2 (length p) && (areParagraphs 32 (drop 2 p) && eqb (u16At p 0) (length (paragraphsOf (drop 2 p))))
 
 unfoldable pub isDeclaration : Bytes → Bool
 isDeclaration p = isNamed p && isCounted (afterName p)
 
 -- a rule, an index, then what a declaration has
 unfoldable pub isField : Bytes → Bool
-isField p = atLeast 9 p && (leb (getD p 0 0) 2 && isDeclaration (drop 9 p))
+isField p = leb 9 (length p) && (leb (getD p 0 0) 2 && isDeclaration (drop 9 p))
 
 -- the first n of the u64s in these bytes
 abbrev pub indicesIn : ℕ → Bytes → List ℕ
@@ -55,7 +55,7 @@ indicesOf p = indicesIn (length p / 8) p
 
 -- at least one index
 unfoldable pub isDeleted : Bytes → Bool
-isDeleted p = atLeast 1 p && (eqb (length p % 8) 0 && isChain ltb (indicesOf p))
+isDeleted p = leb 1 (length p) && (eqb (length p % 8) 0 && isChain ltb (indicesOf p))
 
 unfoldable pub isPlainType : Bytes → Bool
 isPlainType p = eqb (length p) 2 && isPlain (u16At p 0)

@@ -30,9 +30,18 @@ isFramedAfter (suc left) (b ∷ bs) = isFramedAfter left bs
 unfoldable pub isFramed : Bytes → Bool
 isFramed = isFramedAfter 0
 
--- a declaration begins, or the table ends, which 0 stands for
+-- What may stand outside a declaration (0 is the table's end), after an import, at the table's start, in a declaration, and as a type.
 abbrev pub isOutside : ℕ → Bool
 isOutside k = eqb k 0 || (eqb k sStruct || eqb k sChoice)
+
+abbrev pub isImporting : ℕ → Bool
+isImporting k = eqb k sImport || isOutside k
+
+abbrev pub isOpening : ℕ → Bool
+isOpening k = eqb k sComment || isImporting k
+
+abbrev pub isInside : ℕ → Bool
+isInside k = eqb k sField || (eqb k sDeleted || isOutside k)
 
 abbrev pub isType : ℕ → Bool
 isType k = eqb k sArray || (eqb k sPlain || eqb k sCustom)
@@ -40,11 +49,9 @@ isType k = eqb k sArray || (eqb k sPlain || eqb k sCustom)
 -- a record of the kind k may stand after one of the kind `last`, which is 0 at the table's start
 unfoldable pub mayFollow : ℕ → ℕ → Bool
 mayFollow last k =
-    pick (eqb last 0) (eqb k sComment || (eqb k sImport || isOutside k))
-    (pick (eqb last sComment || eqb last sImport) (eqb k sImport || isOutside k)
-    (pick (eqb last sField || eqb last sArray) (isType k)
-    (pick (eqb last sDeleted) (isOutside k)
-    (eqb k sField || (eqb k sDeleted || isOutside k)))))
+    pick (eqb last 0) (isOpening k)
+    (pick (eqb last sComment || eqb last sImport) (isImporting k)
+    (pick (eqb last sField || eqb last sArray) (isType k) (pick (eqb last sDeleted) (isOutside k) (isInside k))))
 
 -- imports ascend by snake case
 unfoldable pub isLater : Token → Token → Bool
