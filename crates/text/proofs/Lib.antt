@@ -4,6 +4,5 @@ pub mod Wrap
 pub mod Places
 pub mod Comment
 pub mod Cases
-pub mod Walk
 pub mod Parts
 pub mod Types

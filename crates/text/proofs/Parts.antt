@@ -16,9 +16,15 @@ use Rattle.schema.specs.Kind.{sArray, sPlain, sCustom}
 use Rattle.schema.specs.Payload.{isName, nameOf, afterName, isSized, isNamed, isImport, isCounted, isDeclaration, isField, isDeleted, isPlainType, isCustom, isPayload}
 use Rattle.schema.specs.Table.{isType}
 use Rattle.schema.specs.Decode.{commentOf}
-use Rattle.schema.proofs.Records.{both, atLeast-le}
+use Rattle.schema.specs.Walk.{nextAt, payloadAt}
+use Rattle.schema.proofs.Records.{both}
+use Rattle.schema.proofs.Parts.{sized-facts}
 use Rattle.schema.proofs.Payloads.{name-short}
 use Rattle.text.specs.Text.{isEmpty}
+
+-- a payload
+pub payload-part : (t : Bytes) (at : ℕ) {next : ℕ} → next ≡ nextAt t at → take (next - (at + 12)) (drop (at + 12) t) ≡ payloadAt t at
+payload-part t at e = rw e
 
 -- a name stands after its length, and ends where that says
 pub name-part : (p : Bytes) {end : ℕ} → end ≡ 2 + u16At p 0 → take (end - 2) (drop 2 p) ≡ nameOf p
@@ -38,10 +44,6 @@ tail-part p n = take-all (length p - n) (drop n p) (omega (arith, length-drop n 
 pub rest-part : (p : Bytes) {end : ℕ} → end ≡ 2 + u16At p 0 → take (length p - end) (drop end p) ≡ afterName p
 rest-part p {end} e = tail-part p end ∙ after-part p e
 
-pub sized-room : (p : Bytes) → isSized p ≡ true → 2 + u16At p 0 ≤ length p
-unfolding isSized
-sized-room p e = atLeast-le (2 + u16At p 0) p (both (atLeast 2 p) _ e .1)
-
 -- a plain type's payload is a number
 pub plain-room : {k : ℕ} (p : Bytes) → k ≡ sPlain → isPayload k p ≡ true → length p ≡ 2
 unfolding isPayload isPlainType pick
@@ -57,7 +59,7 @@ unfolding isCustom paragraphOf
 custom-parts p e =
     let f = both (isSized p) _ e in
     let g = both (eqb (u16At p 0) 0 || isName (nameOf p)) _ (f .1) in
-    record { room = sized-room p (f .0); import = short (eqb (u16At p 0) 0) refl (g .0); name = name-short (afterName p) (g .1) .high }
+    record { room = sized-facts p (f .0) .room; import = short (eqb (u16At p 0) 0) refl (g .0); name = name-short (afterName p) (g .1) .high }
   where
     short : (b : Bool) → eqb (u16At p 0) 0 ≡ b → (b || isName (nameOf p)) ≡ true → length (nameOf p) ≤ 128
     short true q h = omega (arith, length-take (u16At p 0) (drop 2 p), eqb-true (u16At p 0) 0 q)

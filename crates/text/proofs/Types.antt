@@ -19,8 +19,9 @@ use Rattle.schema.specs.Payload.{isPayload, nameOf, afterName}
 use Rattle.schema.specs.Table.{isType, mayFollow}
 use Rattle.schema.specs.Decode.{rangeOf, typeOf, optional}
 use Rattle.text.specs.Text.{typeText, plainText, customText}
-use Rattle.text.specs.Walk.{recordsFrom, kindAt, nextAt, payloadAt, Stands, typeAt, depthAt, baseText}
-use Rattle.text.proofs.Walk.{Record, record-at, end-may}
+use Rattle.schema.specs.Walk.{recordsFrom, kindAt, nextAt, payloadAt, Stands}
+use Rattle.schema.proofs.Walk.{Record, record-at, end-may}
+use Rattle.text.specs.Types.{typeAt, depthAt, baseText}
 
 -- where a kind must stand, the table goes on
 pub goes-on : {t : Bytes} {at : ℕ} {may : ℕ → Bool} → Stands t at may → may 0 ≡ false → at < length t

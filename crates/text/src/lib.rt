@@ -16,7 +16,8 @@ ghost use Rattle.schema.specs.Table.{isType};
 ghost use Rattle.schema.specs.Decode.{optional, ruleOf, variantOf, commentOf, typeOf};
 ghost use Rattle.text.specs.Wrap.{wordEnd};
 ghost use Rattle.text.specs.Text.{blank, lineText, paragraphText, mark, commentText, isEmpty, isInferred, importText, plainText, customText, typeText, ruleText, fieldName, fieldType, fieldIndex, indexText, deletedText, variantText, headText};
-ghost use Rattle.text.specs.Walk.{kindAt, nextAt, typeAt, depthAt, baseText, Stands};
+ghost use Rattle.schema.specs.Walk.{kindAt, nextAt, payloadAt, Stands};
+ghost use Rattle.text.specs.Types.{typeAt, depthAt, baseText};
 
 const MAX_COLUMNS: usize = 79;
 

@@ -9,7 +9,7 @@ use borrow.Fn.PlainCycle.{Measures, is, falls, and}
 use Rattle.wire.proofs.put_byte.Reads as put-byte-reads
 use Rattle.wire.proofs.Laws.{then, wrote-length}
 use Rattle.text.specs.Text.{typeText}
-use Rattle.text.proofs.Walk.{payload-part}
+use Rattle.text.proofs.Parts.{payload-part}
 use Rattle.text.proofs.Types.{type-record, array-at, one-less, base-at}
 use Rattle.text.proofs.kind_at.Reads as kind-at-reads
 use Rattle.text.proofs.next_at.Reads as next-at-reads

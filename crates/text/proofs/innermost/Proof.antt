@@ -5,7 +5,8 @@ use mathlib.Core.Path.{sym, _∙_}
 use Prim.Native.Nat.{_+_, _*_, _-_}
 use lib.ListN.{length}
 use Rattle.schema.specs.Table.{isType}
-use Rattle.text.specs.Walk.{Stands, depthAt}
+use Rattle.schema.specs.Walk.{Stands}
+use Rattle.text.specs.Types.{depthAt}
 use Rattle.text.proofs.Types.{Deeper, deeper-begin, deeper-more, deeper-done, type-record}
 use Rattle.text.proofs.innermost.Statement.{statement}
 use Rattle.text.proofs.innermost.Tie as tie

@@ -6,7 +6,7 @@ use mathlib.Core.Path.{_≡_, ap, _∙_}
 use Prim.Native.Nat.{ℕ, _+_}
 use borrow.Author.Tests.{eq-eqb, ne-eqb}
 use Rattle.wire.proofs.Laws.{wrote-length}
-use Rattle.text.specs.Walk.{baseText}
+use Rattle.text.specs.Types.{baseText}
 use Rattle.text.proofs.Laws.{wrote-yes, wrote-no}
 use Rattle.text.proofs.Parts.{plain-room, custom-type, name-part, rest-part}
 use Rattle.text.proofs.put_base.Statement.{statement}
