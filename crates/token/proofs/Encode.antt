@@ -19,7 +19,7 @@ use Rattle.identifier.specs.Byte.{within}
 use Rattle.token.specs.Kind.{kIdentifier, kPath, kInteger, kComment}
 use Rattle.token.specs.Token.{Token, endOf}
 use Rattle.token.specs.Payload.{isIdentifier, isPath, isInteger, isComment, isPayload}
-use Rattle.token.specs.Table.{sizeOf, tokenOf, isWhole, isOrdered, faultOf, tokens, decodeFrom, decode, encodeTokens}
+use Rattle.token.specs.Table.{sizeOf, tokenOf, isWhole, tokenFault, faultOf, tokens, decodeFrom, decode, encodeTokens}
 use Rattle.token.specs.Fit.{Sound, Fit}
 use Rattle.token.specs.Fit.Fit.{none, more}
 use Rattle.token.proofs.Records.{Fits, bounds, whole-is, decode-end, decode-next}
@@ -122,7 +122,7 @@ module _ (t : Token) (rest : Bytes) (w : Narrow t) where
       ∙ rw (le-leb 12 (length (entry t ++ rest)) (omega arith), le-leb 12 (sizeOf (entry t ++ rest)) (omega arith), le-leb (sizeOf (entry t ++ rest)) (length (entry t ++ rest)) (omega arith))
 
 faultless : (last row : ℕ) (bs : Bytes) → isWhole bs ≡ true → Sound last row (tokenOf bs) → faultOf last row bs ≡ 0
-unfolding faultOf isOrdered pick
+unfolding faultOf tokenFault pick
 faultless last row bs w s =
     rw (w, le-leb _ _ (s .known .0), le-leb _ _ (s .known .1), s .payload, le-leb _ _ (s .order .0), le-leb _ _ (s .order .1), le-ltb _ _ (s .shallow))
 
