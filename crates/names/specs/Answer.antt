@@ -16,6 +16,8 @@ use Rattle.identifier.specs.declared.Order.{Order}
 use Rattle.identifier.specs.declared.Order.the-variants as by
 use Rattle.names.specs.declared.Answer.{Answer}
 use Rattle.names.specs.declared.Answer.the-variants.{Written, Refused}
+use Rattle.names.specs.declared.Relative.{Relative}
+use Rattle.names.specs.declared.Relative.the-variants as relative
 use Rattle.names.specs.declared.Sameness.{Sameness}
 use Rattle.names.specs.declared.Sameness.the-variants as equal
 use Rattle.names.specs.declared.Survival.{Survival}
@@ -33,6 +35,15 @@ leftOf good bs o = pick good (laid o bs) o
 
 pub record Answers (good : Bool) (bs o o′ : Bytes) (r : Answer) : Type 0 where
   pub answer : r ≡ answerOf good bs o
+  pub buffer : o′ ≡ leftOf good bs o
+
+-- for relativizing, with the number of steps up besides
+abbrev pub withSteps : ℕ → Answer → Relative
+withSteps up (Written n) = relative.Written n up
+withSteps up (Refused number offset) = relative.Refused number offset
+
+pub record Relatives (good : Bool) (bs : Bytes) (up : ℕ) (o o′ : Bytes) (r : Relative) : Type 0 where
+  pub answer : r ≡ withSteps up (answerOf good bs o)
   pub buffer : o′ ≡ leftOf good bs o
 
 -- the order of two names
