@@ -1,8 +1,8 @@
 // Token tables: the check of document 01 (R1 to R7), and the walk over a table that passed it.
 ghost use mathlib.Core.Path.{_≡_};
-ghost use Prim.Native.Nat.{_+_, _≤_, _<_};
+ghost use Prim.Native.Nat.{_≤_, _<_};
 ghost use mathlib.Core.Bool.{true};
-ghost use lib.ListN.{length, drop};
+ghost use lib.ListN.{length};
 ghost use Rattle.wire.specs.Le.{leNumber};
 ghost use Rattle.identifier.specs.Byte.{isPrintable};
 ghost use Rattle.token.specs.Kind.{kInteger};
@@ -210,6 +210,7 @@ fn fault(last: u32, row: usize, bs: &[u8]) -> u16
     token_fault(last, row, kind, start, end, &bs[12..size])
 }
 
+// The refusal's number and the faulty record's offset, or how many tokens there are and where the last ends.
 pub enum Checked {
     Refused(u16, usize),
     Fine(usize, u32),
