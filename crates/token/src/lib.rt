@@ -1,8 +1,8 @@
 // Token tables: the check of document 01 (R1 to R7), and the walk over a table that passed it.
 ghost use mathlib.Core.Path.{_≡_};
-ghost use Prim.Native.Nat.{_+_, _≤_, _<_};
+ghost use Prim.Native.Nat.{_≤_, _<_};
 ghost use mathlib.Core.Bool.{true};
-ghost use lib.ListN.{length, drop};
+ghost use lib.ListN.{length};
 ghost use Rattle.wire.specs.Le.{leNumber};
 ghost use Rattle.identifier.specs.Byte.{isPrintable};
 ghost use Rattle.token.specs.Kind.{kInteger};
@@ -30,7 +30,7 @@ fn is_name_byte(b: u8) -> bool
         | (((b'0' <= b) & (b <= b'9')) | ((b == b'_') | (b == b'-')))
 }
 
-fn is_printable(b: u8) -> bool
+pub fn is_printable(b: u8) -> bool
     ensures { λ r. ⌜ r ≡ isPrintable b ⌝ }
 {
     (b' ' <= b) & (b <= b'~')
@@ -64,7 +64,7 @@ fn is_identifier(p: &[u8]) -> bool
     true
 }
 
-fn is_path(p: &[u8]) -> bool
+pub fn is_path(p: &[u8]) -> bool
     ensures { λ r. ⌜ r ≡ isPath (now (p .entry)) ⌝ }
 {
     if LONGEST < p.len() {
@@ -106,7 +106,7 @@ fn is_paragraph(p: &[u8]) -> bool
     !gap
 }
 
-fn is_comment(p: &[u8]) -> bool
+pub fn is_comment(p: &[u8]) -> bool
     ensures { λ r. ⌜ r ≡ isComment (now (p .entry)) ⌝ }
 {
     if p.len() < 1 {
@@ -152,7 +152,7 @@ fn is_payload(kind: u16, p: &[u8]) -> bool
     p.len() == 0
 }
 
-fn is_whole(bs: &[u8]) -> bool
+pub fn is_whole(bs: &[u8]) -> bool
     ensures { λ r. ⌜ r ≡ isWhole (now (bs .entry)) ⌝ }
 {
     if bs.len() < 12 {
@@ -210,6 +210,7 @@ fn fault(last: u32, row: usize, bs: &[u8]) -> u16
     token_fault(last, row, kind, start, end, &bs[12..size])
 }
 
+// The refusal's number and the faulty record's offset, or how many tokens there are and where the last ends.
 pub enum Checked {
     Refused(u16, usize),
     Fine(usize, u32),
