@@ -27,7 +27,7 @@ fn is_name_byte(b: u8) -> bool
         | (((b'0' <= b) & (b <= b'9')) | ((b == b'_') | (b == b'-')))
 }
 
-fn is_printable(b: u8) -> bool
+pub fn is_printable(b: u8) -> bool
     ensures { λ r. ⌜ r ≡ isPrintable b ⌝ }
 {
     (b' ' <= b) & (b <= b'~')
@@ -61,7 +61,7 @@ fn is_identifier(p: &[u8]) -> bool
     true
 }
 
-fn is_path(p: &[u8]) -> bool
+pub fn is_path(p: &[u8]) -> bool
     ensures { λ r. ⌜ r ≡ isPath (now (p .entry)) ⌝ }
 {
     if 128 < p.len() {
@@ -103,7 +103,7 @@ fn is_paragraph(p: &[u8]) -> bool
     !gap
 }
 
-fn is_comment(p: &[u8]) -> bool
+pub fn is_comment(p: &[u8]) -> bool
     ensures { λ r. ⌜ r ≡ isComment (now (p .entry)) ⌝ }
 {
     if p.len() < 1 {
@@ -149,7 +149,7 @@ fn is_payload(kind: u16, p: &[u8]) -> bool
     p.len() == 0
 }
 
-fn is_whole(bs: &[u8]) -> bool
+pub fn is_whole(bs: &[u8]) -> bool
     ensures { λ r. ⌜ r ≡ isWhole (now (bs .entry)) ⌝ }
 {
     if bs.len() < 12 {
