@@ -11,3 +11,5 @@ pub mod PayloadsRead
 pub mod WriteBack
 pub mod RecordsBack
 pub mod Walk
+pub mod Scans
+pub mod Judging

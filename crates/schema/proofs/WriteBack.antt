@@ -19,8 +19,8 @@ use Rattle.schema.specs.Kind.{sComment, sImport, sStruct, sChoice, sFiel
 use Rattle.schema.specs.Order.{isChainAfter, isChain}
 use Rattle.schema.specs.Limits.{Each, RangeWithin, CommentWithin, ImportWithin, TypeWithin, nesting, FieldWithin, DeletedWithin, DeclarationWithin, isEarlier, Within}
 use Rattle.schema.specs.Encode.{nowhere, indices}
-use Rattle.schema.specs.Payload.{nameOf, indicesOf, isPayload}
-use Rattle.schema.specs.Table.{mayFollow, isOutside, isImporting, isInside, isType, isLater, rowOf, isNext, areNext, outset}
+use Rattle.schema.specs.Payload.{nameOf, indicesOf, isTypePayload, isPayload}
+use Rattle.schema.specs.Table.{mayFollow, isOutside, isImporting, isInside, isType, isLater, rowAfter, isRight, isNext, areNext, outset}
 use Rattle.schema.specs.Decode.{rangeOf, openingOf, importOf, importsOf, typeOf, fieldsOf, deletedOf, declarationsOf, schemaOf, settled}
 use Rattle.schema.proofs.Records.{both, Fits}
 use Rattle.schema.proofs.PayloadsRead.{Some, import-read, declaration-read, field-read, deleted-read, comment-read, plain-read, custom-read}
@@ -96,18 +96,18 @@ either false b e f g = g e
 record NextIs (last : Token) (row : ℕ) (r : Token) (rs : List Token) : Type 0 where
   follow : mayFollow (last .kind) (r .kind) ≡ true
   payload : isPayload (r .kind) (r .payload) ≡ true
-  later : isLater last r ≡ true
-  nested : rowOf row r ≤ 64
-  rest : areNext r (rowOf row r) rs ≡ true
+  later : isLater (last .kind) (last .payload) (r .kind) (r .payload) ≡ true
+  nested : rowAfter row (r .kind) ≤ 64
+  rest : areNext r (rowAfter row (r .kind)) rs ≡ true
 
 next-is : {last : Token} {row : ℕ} {r : Token} {rs : List Token} → areNext last row (r ∷ rs) ≡ true → NextIs last row r rs
-unfolding isNext
+unfolding isNext isRight
 next-is {last} {row} {r} e =
     let a = both (isNext last row r) _ e in
-    let b = both (mayFollow (last .kind) (r .kind)) _ (a .0) in
+    let d = both (isRight (last .kind) row (r .kind) (r .payload)) _ (a .0) in
+    let b = both (mayFollow (last .kind) (r .kind)) _ (d .0) in
     let c = both (isPayload (r .kind) (r .payload)) _ (b .1) in
-    let d = both (isLater last r) _ (c .1) in
-    record { follow = b .0; payload = c .0; later = d .0; nested = leb-true (rowOf row r) 64 (d .1); rest = a .1 }
+    record { follow = b .0; payload = c .0; nested = leb-true (rowAfter row (r .kind)) 64 (c .1); later = d .1; rest = a .1 }
 
 -- one more record in front
 module _ (rs : List Token) (h : Parts rs) (last : Token) (row : ℕ) where
@@ -116,7 +116,7 @@ module _ (rs : List Token) (h : Parts rs) (last : Token) (row : ℕ) where
   Gives Q r = Read r → NextIs last row r rs → Q (r ∷ rs)
 
   struct-gives : (range : Range) (p : Bytes) → Gives OutsideParts (made sStruct range p)
-  unfolding isPayload mayFollow pick
+  unfolding isPayload isTypePayload mayFollow pick
   struct-gives range p read n =
       let i = h .inside _ _ (λ k. refl) (n .rest) in
       let d = declaration-read p (read .bytes) (n .payload) in
@@ -126,7 +126,7 @@ module _ (rs : List Token) (h : Parts rs) (last : Token) (row : ℕ) where
       }
 
   choice-gives : (range : Range) (p : Bytes) → Gives OutsideParts (made sChoice range p)
-  unfolding isPayload mayFollow pick
+  unfolding isPayload isTypePayload mayFollow pick
   choice-gives range p read n =
       let i = h .inside _ _ (λ k. refl) (n .rest) in
       let d = declaration-read p (read .bytes) (n .payload) in
@@ -138,13 +138,13 @@ module _ (rs : List Token) (h : Parts rs) (last : Token) (row : ℕ) where
   -- where a declaration begins, or the table would end
   outside-gives : (Q : List Token → Type 0) → ((range : Range) (p : Bytes) → Gives Q (made sStruct range p)) → ((range : Range) (p : Bytes) → Gives Q (made sChoice range p))
       → (r : Token) → isOutside (r .kind) ≡ true → Gives Q r
-  unfolding isPayload pick
+  unfolding isPayload isTypePayload pick
   outside-gives Q s c r e =
       either (eqb (r .kind) 0) _ e (λ q. at-kind (Gives Q) r (eqb-true _ _ q) (λ read n. never (n .payload)))
       (λ e. either (eqb (r .kind) sStruct) _ e (λ q. at-kind (Gives Q) r (eqb-true _ _ q) (s (rangeOf r) (r .payload))) (λ q. at-kind (Gives Q) r (eqb-true _ _ q) (c (rangeOf r) (r .payload))))
 
   field-gives : (range : Range) (p : Bytes) → Gives InsideParts (made sField range p)
-  unfolding isPayload mayFollow pick rowOf
+  unfolding isPayload isTypePayload mayFollow pick rowAfter
   field-gives range p read n =
       let t = h .typed _ _ (λ k. refl) (omega arith) (n .rest) in
       let f = field-read p (read .bytes) (n .payload) in
@@ -156,7 +156,7 @@ module _ (rs : List Token) (h : Parts rs) (last : Token) (row : ℕ) where
       }
 
   deleted-gives : (range : Range) (p : Bytes) → Gives InsideParts (made sDeleted range p)
-  unfolding isPayload mayFollow pick
+  unfolding isPayload isTypePayload mayFollow pick
   deleted-gives range p read n =
       let o = h .outside _ _ (λ k. refl) (n .rest) in
       let d = deleted-read p (read .bytes) (read .fits .size) (n .payload) in
@@ -175,7 +175,7 @@ module _ (rs : List Token) (h : Parts rs) (last : Token) (row : ℕ) where
       r))
 
   array-gives : (range : Range) (p : Bytes) → Gives (TypedParts row) (made sArray range p)
-  unfolding isPayload mayFollow pick rowOf
+  unfolding isPayload isTypePayload mayFollow pick rowAfter
   array-gives range p read n =
       let t = h .typed _ _ (λ k. refl) (n .nested) (n .rest) in
       let l = t .nested in
@@ -194,14 +194,14 @@ module _ (rs : List Token) (h : Parts rs) (last : Token) (row : ℕ) where
 
   module _ (l : row ≤ 64) where
     plain-gives : (range : Range) (p : Bytes) → Gives (TypedParts row) (made sPlain range p)
-    unfolding isPayload mayFollow pick
+    unfolding isPayload isTypePayload mayFollow pick
     plain-gives range p read n =
         let i = h .inside _ _ (λ k. refl) (n .rest) in
         let d = plain-read p (read .bytes) (n .payload) in
         record { back = rw (d .back, i .back); type = (range-within read, d .kind); nested = omega arith; fields = i .fields; deleted = i .deleted; declarations = i .declarations }
 
     custom-gives : (range : Range) (p : Bytes) → Gives (TypedParts row) (made sCustom range p)
-    unfolding isPayload mayFollow pick
+    unfolding isPayload isTypePayload mayFollow pick
     custom-gives range p read n =
         let i = h .inside _ _ (λ k. refl) (n .rest) in
         let d = custom-read p (read .bytes) (n .payload) in
@@ -213,12 +213,12 @@ module _ (rs : List Token) (h : Parts rs) (last : Token) (row : ℕ) where
         (λ e. either (eqb (r .kind) sPlain) _ e (λ q. at-kind (Gives (TypedParts row)) r (eqb-true _ _ q) (plain-gives (rangeOf r) (r .payload)))
         (λ q. at-kind (Gives (TypedParts row)) r (eqb-true _ _ q) (custom-gives (rangeOf r) (r .payload))))
 
-  earlier : (range : Range) (p : Bytes) → last .kind ≡ sImport → isLater last (made sImport range p) ≡ true → isBefore (nameOf (last .payload)) (nameOf p) ≡ true
-  unfolding isLater
+  earlier : (range : Range) (p : Bytes) → last .kind ≡ sImport → isLater (last .kind) (last .payload) sImport p ≡ true → isBefore (nameOf (last .payload)) (nameOf p) ≡ true
+  unfolding isLater pick
   earlier range p e l = rw (eq-eqb (last .kind) sImport e) at l
 
   import-gives : (range : Range) (p : Bytes) → Gives (ImportParts last) (made sImport range p)
-  unfolding isPayload mayFollow pick
+  unfolding isPayload isTypePayload mayFollow pick
   import-gives range p read n =
       let m = h .imports _ _ (λ k. refl) (n .rest) in
       let i = import-read p (read .bytes) (n .payload) in
@@ -261,7 +261,7 @@ no-comment : CommentWithin []
 no-comment = record { few = omega arith; each = tt }
 
 schema-step : (r : Token) (rs : List Token) → Parts rs → Read r → NextIs outset 0 r rs → SchemaParts (r ∷ rs)
-unfolding isPayload mayFollow pick
+unfolding isPayload isTypePayload mayFollow pick
 schema-step r rs h read n = go (eqb (r .kind) sComment) refl
   where
     written : (ps : List Bytes) → Some Bytes ps → {rs : List Token} → commentRecords ps rs ≡ made sComment nowhere (paragraphBytes ps) ∷ rs
