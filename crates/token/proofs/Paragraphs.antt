@@ -1,18 +1,19 @@
 -- A Comment's payload and its paragraphs determine each other.
 use borrow.Author.Tests.{leb-true, le-leb}
-use Prim.Native.Nat.{ℕ, zero, suc, _+_, _*_, _≤_, _<_}
+use Prim.Native.Nat.{ℕ, zero, suc, _+_, _*_, _-_, _≤_, _<_}
 use mathlib.Core.Path.{_≡_, refl, sym, _∙_}
 use mathlib.Core.Bool.{true, _&&_, and-eq-true-iff}
 use mathlib.Core.List.{List, [], _∷_, _++_, append-assoc}
 use native.Mathlib.Omega.{arith}
+use native.Mathlib.Nat.{zero-add, add-zero}
 use native.Mathlib.Numerals.{sub-one}
 use lib.Dec.{leb}
-use lib.ListN.{length, take, drop, take-append-drop, length-drop, length-append}
-use lib.Seq.{length-take-le, take-at, drop-at}
+use lib.ListN.{length, take, drop, take-append-drop, drop-of-length-le, length-drop, length-append}
+use lib.Seq.{length-take-le, take-at, drop-at, drop-drop}
 use Rattle.wire.specs.Bytes.{Bytes}
 use Rattle.wire.specs.Le.{leBytes, leNumber, leAt, u16At}
 use Rattle.wire.proofs.Numbers.{AllBytes, leBytes-length, leBytes-leNumber, leAt-leBytes}
-use Rattle.token.specs.Payload.{atLeast, isSpaced, isParagraph, paragraphOf, afterParagraph, areParagraphs, paragraphsIn, paragraphBytes, allParagraphs}
+use Rattle.token.specs.Payload.{atLeast, isSpaced, isParagraph, paragraphOf, afterParagraph, areParagraphs, isComment, paragraphsIn, paragraphsOf, paragraphBytes, allParagraphs}
 use Rattle.token.proofs.Laws.{atLeast-length, paragraphs-none, paragraphs-step}
 
 pub all-take : (n : ℕ) (bs : Bytes) → AllBytes bs → AllBytes (take n bs)
@@ -29,25 +30,29 @@ all-drop (suc n) (b ∷ bs) h = all-drop n bs (h .1)
 pub le-again : (k : ℕ) (bs : Bytes) → AllBytes bs → k ≤ length bs → leBytes k (leNumber (take k bs)) ≡ take k bs
 le-again k bs h l = rw (length-take-le k bs l) at (leBytes-leNumber (take k bs) (all-take k bs h))
 
--- the first paragraph lies whole in these bytes
+-- of at most n paragraphs, the first lies whole in these bytes
 pub record Page (n : ℕ) (bs : Bytes) : Type 0 where
+  pub some : n ≡ 0 → ⊥
   pub head : 2 ≤ length bs
   pub tail : 2 + u16At bs 0 ≤ length bs
   pub first : isParagraph (paragraphOf bs) ≡ true
-  pub rest : areParagraphs n (afterParagraph bs) ≡ true
+  pub rest : areParagraphs (n - 1) (afterParagraph bs) ≡ true
 
-pub page : (n b : ℕ) (bs : Bytes) → areParagraphs (suc n) (b ∷ bs) ≡ true → Page n (b ∷ bs)
+pub page : (n : ℕ) (bs : Bytes) → 0 < length bs → areParagraphs n bs ≡ true → Page n bs
 unfolding areParagraphs
-page n b bs e =
+page n [] h e = absurd (omega arith)
+page zero (b ∷ bs) h e = let z : _≡_ {A = ℕ} 0 1 = cc in absurd (omega arith)
+page (suc n) (b ∷ bs) h e =
     let x = b ∷ bs in
     let p = and-eq-true-iff (atLeast 2 x) _ .0 e in
     let q = and-eq-true-iff (atLeast (2 + u16At x 0) x) _ .0 (p .1) in
     let r = and-eq-true-iff (isParagraph (paragraphOf x)) _ .0 (q .1) in
     record {
+      some = λ z. omega arith;
       head = leb-true 2 (length x) (sym (atLeast-length 2 x) ∙ p .0);
       tail = leb-true (2 + u16At x 0) (length x) (sym (atLeast-length (2 + u16At x 0) x) ∙ q .0);
       first = r .0;
-      rest = r .1;
+      rest = rw sub-one (r .1);
     }
 
 paragraph-length : {n : ℕ} {bs : Bytes} → Page n bs → length (paragraphOf bs) ≡ u16At bs 0
@@ -66,13 +71,18 @@ paragraphs-again zero [] h e = refl
 paragraphs-again (suc n) [] h e = refl
 paragraphs-again zero (b ∷ bs) h e = let z : _≡_ {A = ℕ} 0 1 = cc in absurd (omega arith)
 paragraphs-again (suc n) (b ∷ bs) h e =
-    let g = page n b bs e in
-    let i = paragraphs-again n (afterParagraph (b ∷ bs)) (all-drop (u16At (b ∷ bs) 0) (drop 2 (b ∷ bs)) (all-drop 2 (b ∷ bs) h)) (g .rest) in
+    let g = page (suc n) (b ∷ bs) (omega arith) e in
+    let i = paragraphs-again n (afterParagraph (b ∷ bs)) (all-drop (u16At (b ∷ bs) 0) (drop 2 (b ∷ bs)) (all-drop 2 (b ∷ bs) h)) (rw sub-one at (g .rest)) in
     rw i (page-bytes h g)
 
-in-step : (n : ℕ) (bs : Bytes) → 0 < length bs → paragraphsIn (suc n) bs ≡ paragraphOf bs ∷ paragraphsIn n (afterParagraph bs)
-in-step n [] h = absurd (omega arith)
-in-step n (b ∷ bs) h = refl
+in-none : (n : ℕ) → paragraphsIn n [] ≡ []
+in-none zero = refl
+in-none (suc n) = refl
+
+in-step : (n : ℕ) (bs : Bytes) → (n ≡ 0 → ⊥) → 0 < length bs → paragraphsIn n bs ≡ paragraphOf bs ∷ paragraphsIn (n - 1) (afterParagraph bs)
+in-step zero bs m h = absurd (m refl)
+in-step (suc n) [] m h = absurd (omega arith)
+in-step (suc n) (b ∷ bs) m h = rw sub-one
 
 -- paragraphs are found in their bytes
 module _ (p rest : Bytes) (h : length p < 65536) where
@@ -99,7 +109,7 @@ module _ (p rest : Bytes) (h : length p < 65536) where
       paragraphs-step (suc n) x (λ z. omega arith) (omega arith) ∙ rw (page-size, a, b, page-first, page-after, sub-one)
 
   page-in : (n : ℕ) → paragraphsIn (suc n) (leBytes 2 (length p) ++ p ++ rest) ≡ p ∷ paragraphsIn n rest
-  page-in n = let l = page-length in in-step n (leBytes 2 (length p) ++ p ++ rest) (omega arith) ∙ rw (page-first, page-after)
+  page-in n = let l = page-length in in-step (suc n) (leBytes 2 (length p) ++ p ++ rest) (λ z. omega arith) (omega arith) ∙ rw (page-first, page-after, sub-one)
 
 pub paragraph-small : (p : Bytes) → isParagraph p ≡ true → length p ≤ 1024
 unfolding isParagraph
@@ -125,10 +135,70 @@ paragraphs-small zero [] e = omega arith
 paragraphs-small (suc n) [] e = omega arith
 paragraphs-small zero (b ∷ bs) e = let z : _≡_ {A = ℕ} 0 1 = cc in absurd (omega arith)
 paragraphs-small (suc n) (b ∷ bs) e =
-    let g = page n b bs e in
-    let i = paragraphs-small n (afterParagraph (b ∷ bs)) (g .rest) in
+    let g = page (suc n) (b ∷ bs) (omega arith) e in
+    let i = paragraphs-small n (afterParagraph (b ∷ bs)) (rw sub-one at (g .rest)) in
     let k = paragraph-length g in
     let s = paragraph-small (paragraphOf (b ∷ bs)) (g .first) in
     let d = length-drop (u16At (b ∷ bs) 0) (drop 2 (b ∷ bs)) in
     let d′ = length-drop 2 (b ∷ bs) in
     omega arith
+
+-- the paragraphs of whole paragraphs are good, and at most n
+pub paragraphs-good : (n : ℕ) (bs : Bytes) → areParagraphs n bs ≡ true → (allParagraphs (paragraphsIn n bs) ≡ true) × (length (paragraphsIn n bs) ≤ n)
+unfolding areParagraphs
+paragraphs-good zero [] e = (refl, omega arith)
+paragraphs-good (suc n) [] e = (refl, omega arith)
+paragraphs-good zero (b ∷ bs) e = let z : _≡_ {A = ℕ} 0 1 = cc in absurd (omega arith)
+paragraphs-good (suc n) (b ∷ bs) e =
+    let g = page (suc n) (b ∷ bs) (omega arith) e in
+    let i = paragraphs-good n (afterParagraph (b ∷ bs)) (rw sub-one at (g .rest)) in
+    (rw (g .first, i .0), omega (arith, i .1))
+
+-- ---- a Comment
+
+pub comment-again : (p : Bytes) → AllBytes p → isComment p ≡ true → paragraphBytes (paragraphsOf p) ≡ p
+unfolding isComment paragraphsOf
+comment-again p h e = paragraphs-again 32 p h (and-eq-true-iff (leb 1 (length p)) (areParagraphs 32 p) .0 e .1)
+
+pub comment-found : (ps : List Bytes) → 0 < length ps → length ps ≤ 32 → allParagraphs ps ≡ true
+    → (isComment (paragraphBytes ps) ≡ true) × (paragraphsOf (paragraphBytes ps) ≡ ps)
+unfolding isComment paragraphsOf paragraphBytes
+comment-found [] z l e = absurd (omega arith)
+comment-found (p ∷ ps) z l e =
+    let f = paragraphs-found 32 (p ∷ ps) l e in
+    let k : 1 ≤ length (paragraphBytes (p ∷ ps)) = simp (length-append, leBytes-length) (omega arith) in
+    (rw (le-leb 1 (length (paragraphBytes (p ∷ ps))) k, f .0), f .1)
+
+-- a loop that counts the paragraphs of p stands at `at`, after `count` of them
+pub record Counting (p : Bytes) (count at : ℕ) : Type 0 where
+  pub few : count ≤ 32
+  pub whole : areParagraphs (32 - count) (drop at p) ≡ true
+  pub left : count + length (paragraphsIn (32 - count) (drop at p)) ≡ length (paragraphsOf p)
+
+pub counting : (p : Bytes) → isComment p ≡ true → Counting p 0 0
+unfolding isComment paragraphsOf
+counting p e = record { few = omega arith; whole = and-eq-true-iff (leb 1 (length p)) (areParagraphs 32 p) .0 e .1; left = zero-add _ }
+
+module _ {p : Bytes} {count at : ℕ} (s : Counting p count at) where
+  pub counted-all : length p ≤ at → count ≡ length (paragraphsOf p)
+  counted-all h = rw (drop-of-length-le p h, in-none (32 - count), add-zero) at (s .left)
+
+  module _ (h : at < length p) where
+    counted-page : Page (32 - count) (drop at p)
+    counted-page = page (32 - count) (drop at p) (rw length-drop (omega (arith, h))) (s .whole)
+
+    pub counted-inside : at + 2 + u16At p at ≤ length p
+    unfolding leAt
+    counted-inside = let l = length-drop at p in omega (arith, h, counted-page .tail)
+
+    pub counted-few : count < 32
+    counted-few = omega (arith, s .few, counted-page .some)
+
+    pub counted-next : Counting p (count + 1) (at + 2 + u16At p at)
+    unfolding leAt afterParagraph
+    counted-next =
+        let n : 32 - (count + 1) ≡ 32 - count - 1 = omega arith in
+        let l : 0 < length (drop at p) = rw length-drop (omega (arith, h)) in
+        let d : afterParagraph (drop at p) ≡ drop (at + 2 + u16At p at) p = rw (drop-drop 2 at p, drop-drop (u16At p at) (at + 2) p) in
+        let e = rw (in-step (32 - count) (drop at p) (counted-page .some) l, d) at (s .left) in
+        record { few = omega (arith, counted-few); whole = rw (n, ← d) (counted-page .rest); left = rw n (omega (arith, e)) }

@@ -1,18 +1,21 @@
 // Token tables: the check of document 01 (R1 to R7), and the walk over a table that passed it.
 ghost use mathlib.Core.Path.{_≡_};
-ghost use Prim.Native.Nat.{_+_, _≤_, _<_};
-ghost use mathlib.Core.Bool.{_&&_};
-ghost use lib.Dec.{leb};
-ghost use lib.ListN.{length, drop};
+ghost use Prim.Native.Nat.{_≤_, _<_};
+ghost use mathlib.Core.Bool.{true};
+ghost use lib.ListN.{length};
 ghost use Rattle.wire.specs.Le.{leNumber};
-ghost use Rattle.identifier.specs.Byte.{within, isPrintable};
+ghost use Rattle.identifier.specs.Byte.{isPrintable};
 ghost use Rattle.token.specs.Kind.{kInteger};
-ghost use Rattle.token.specs.Payload.{isNameStart, isNameByte, isPathByte, isIdentifier, isPath, isParagraph, isComment, isPayload};
-ghost use Rattle.token.specs.Table.{isWhole, rowAfter, faultOf};
+ghost use Rattle.token.specs.Token.{token};
+ghost use Rattle.token.specs.Payload.{isNameStart, isNameByte, isPathByte, isIdentifier, isPath, isParagraph, isComment, isPayload, paragraphsOf};
+ghost use Rattle.token.specs.Table.{isWhole, rowAfter, tokenFault, faultOf};
 ghost use Rattle.token.specs.Checked.{checked};
 ghost use Rattle.token.specs.Places.{tokAt, nextAt, Wf};
 
 pub mod kind;
+
+// of a name or a path
+const LONGEST: usize = 128;
 
 fn is_name_start(b: u8) -> bool
     ensures { λ r. ⌜ r ≡ isNameStart b ⌝ }
@@ -45,7 +48,7 @@ fn is_identifier(p: &[u8]) -> bool
     if p.len() < 1 {
         return false;
     }
-    if 128 < p.len() {
+    if LONGEST < p.len() {
         return false;
     }
     if !is_name_start(p[0]) {
@@ -64,7 +67,7 @@ fn is_identifier(p: &[u8]) -> bool
 pub fn is_path(p: &[u8]) -> bool
     ensures { λ r. ⌜ r ≡ isPath (now (p .entry)) ⌝ }
 {
-    if 128 < p.len() {
+    if LONGEST < p.len() {
         return false;
     }
     let mut i = 0;
@@ -162,18 +165,6 @@ pub fn is_whole(bs: &[u8]) -> bool
     size <= bs.len()
 }
 
-fn is_kind(kind: u16) -> bool
-    ensures { λ r. ⌜ r ≡ within 1 25 kind ⌝ }
-{
-    (1 <= kind) & (kind <= 25)
-}
-
-fn is_ordered(last: u32, start: u32, end: u32) -> bool
-    ensures { λ r. ⌜ r ≡ (leb last start && leb start end) ⌝ }
-{
-    (last <= start) & (start <= end)
-}
-
 fn row_after(row: usize, kind: u16) -> usize
     requires { ⌜ row ≤ 64 ⌝ }
     ensures { λ r. ⌜ r ≡ rowAfter row kind ⌝ }
@@ -184,23 +175,18 @@ fn row_after(row: usize, kind: u16) -> usize
     0
 }
 
-// The number that the record at the front of these bytes is refused with; 0 for none.
-fn fault(bs: &[u8], last: u32, row: usize) -> u16
+// The number that a token is refused with; 0 for none.
+fn token_fault(last: u32, row: usize, kind: u16, start: u32, end: u32, p: &[u8]) -> u16
     requires { ⌜ row ≤ 64 ⌝ }
-    ensures { λ r. ⌜ r ≡ faultOf last row (now (bs .entry)) ⌝ }
+    ensures { λ r. ⌜ r ≡ tokenFault last row (token kind start end (now (p .entry))) ⌝ }
 {
-    if !is_whole(bs) {
-        return 2;
-    }
-    let kind = wire::u16_at(bs, 2);
-    if !is_kind(kind) {
+    if !((1 <= kind) & (kind <= 25)) {
         return 3;
     }
-    let size = wire::u16_at(bs, 0) as usize;
-    if !is_payload(kind, &bs[12..size]) {
+    if !is_payload(kind, p) {
         return 4;
     }
-    if !is_ordered(last, wire::u32_at(bs, 4), wire::u32_at(bs, 8)) {
+    if !((last <= start) & (start <= end)) {
         return 5;
     }
     if 64 < row_after(row, kind) {
@@ -209,6 +195,22 @@ fn fault(bs: &[u8], last: u32, row: usize) -> u16
     0
 }
 
+// The same of the record that these bytes begin with.
+fn fault(last: u32, row: usize, bs: &[u8]) -> u16
+    requires { ⌜ row ≤ 64 ⌝ }
+    ensures { λ r. ⌜ r ≡ faultOf last row (now (bs .entry)) ⌝ }
+{
+    if !is_whole(bs) {
+        return 2;
+    }
+    let size = wire::u16_at(bs, 0) as usize;
+    let kind = wire::u16_at(bs, 2);
+    let start = wire::u32_at(bs, 4);
+    let end = wire::u32_at(bs, 8);
+    token_fault(last, row, kind, start, end, &bs[12..size])
+}
+
+// The refusal's number and the faulty record's offset, or how many tokens there are and where the last ends.
 pub enum Checked {
     Refused(u16, usize),
     Fine(usize, u32),
@@ -229,7 +231,7 @@ pub fn check(t: &[u8]) -> Checked
             return Checked::Refused(6, at);
         }
         let bs = &t[at..];
-        let number = fault(bs, last, row);
+        let number = fault(last, row, bs);
         if number != 0 {
             return Checked::Refused(number, at);
         }
@@ -283,4 +285,18 @@ pub fn next_at(t: &[u8], at: usize) -> usize
     ensures { λ r. ⌜ r ≡ nextAt (now (t .entry)) at ⌝ }
 {
     at + wire::u16_at(t, at) as usize
+}
+
+// How many paragraphs a Comment's payload holds.
+pub fn paragraph_count(p: &[u8]) -> u16
+    requires { ⌜ isComment (now p) ≡ true ⌝ }
+    ensures { λ r. ⌜ r ≡ length (paragraphsOf (now (p .entry))) ⌝ }
+{
+    let mut count: u16 = 0;
+    let mut at = 0;
+    while at < p.len() {
+        count += 1;
+        at = at + 2 + wire::u16_at(p, at) as usize;
+    }
+    count
 }
