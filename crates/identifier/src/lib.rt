@@ -1,19 +1,20 @@
 // The names of schemas, after identifier.rs: byte tables, the forms of a name, the order of two names.
 ghost use mathlib.Core.Path.{_≡_};
-ghost use Rattle.identifier.specs.Byte.{isPrintable, isBreak, isUpper, classOf, lowerOf, upperOf};
+ghost use mathlib.Core.Bool.{false, _||_, _&&_};
 ghost use Prim.Native.Nat.{_+_, _≤_, _<_};
-ghost use mathlib.Core.Bool.{false};
 ghost use lib.Dec.{eqb};
 ghost use lib.ListN.{length, getD, take};
 ghost use Rattle.wire.specs.Pick.{pick};
 ghost use Rattle.wire.specs.Put.{Wrote};
+ghost use Rattle.identifier.specs.Byte.{isPrintable, isBreak, isUpper, classOf, lowerOf, upperOf};
 ghost use Rattle.identifier.specs.Table.{table, Tables};
 ghost use Rattle.identifier.specs.Name.{isName};
-ghost use Rattle.identifier.specs.Left.{firstBy, laterBy, Follows, gives};
+ghost use Rattle.identifier.specs.Left.{firstBy, laterBy, gives, codeOf, Follows};
 ghost use Rattle.identifier.specs.Words.{wordsOf};
 ghost use Rattle.identifier.specs.Forms.{joined, snakeOf, camelOf, pascalOf, IsForm};
 ghost use Rattle.identifier.specs.Order.{nameOrder, sameName};
 
+// 0 not printable, 1 the quote, 2 space, 3 any other printable byte, 4 `-`, 5 a digit, 6 `_`, 7 a small letter, 8 a capital
 const CLASS: [u8; 256] = *b"\
     \x00\x00\x00\x00\x00\x00\x00\x00\x00\x00\x00\x00\x00\x00\x00\x00\
     \x00\x00\x00\x00\x00\x00\x00\x00\x00\x00\x00\x00\x00\x00\x00\x00\
@@ -93,28 +94,28 @@ pub fn class_in(class: &[u8; 256], b: u8) -> u8
     class[b as usize]
 }
 
-pub fn lower_in(lower: &[u8; 256], b: u8) -> u8
+fn lower_in(lower: &[u8; 256], b: u8) -> u8
     requires { ⌜ now lower ≡ table lowerOf ⌝ }
     ensures { λ r. ⌜ r ≡ lowerOf b ⌝ }
 {
     lower[b as usize]
 }
 
-pub fn upper_in(upper: &[u8; 256], b: u8) -> u8
+fn upper_in(upper: &[u8; 256], b: u8) -> u8
     requires { ⌜ now upper ≡ table upperOf ⌝ }
     ensures { λ r. ⌜ r ≡ upperOf b ⌝ }
 {
     upper[b as usize]
 }
 
-pub fn is_printable(class: &[u8; 256], b: u8) -> bool
+fn is_printable(class: &[u8; 256], b: u8) -> bool
     requires { ⌜ now class ≡ table classOf ⌝ }
     ensures { λ r. ⌜ r ≡ isPrintable b ⌝ }
 {
     0 < class_in(class, b)
 }
 
-pub fn is_break(class: &[u8; 256], b: u8) -> bool
+fn is_break(class: &[u8; 256], b: u8) -> bool
     requires { ⌜ now class ≡ table classOf ⌝ }
     ensures { λ r. ⌜ r ≡ isBreak b ⌝ }
 {
@@ -122,7 +123,7 @@ pub fn is_break(class: &[u8; 256], b: u8) -> bool
     (k == 4) | (k == 6)
 }
 
-pub fn is_upper(class: &[u8; 256], b: u8) -> bool
+fn is_upper(class: &[u8; 256], b: u8) -> bool
     requires { ⌜ now class ≡ table classOf ⌝ }
     ensures { λ r. ⌜ r ≡ isUpper b ⌝ }
 {
@@ -151,42 +152,59 @@ pub fn is_name(class: &[u8; 256], name: &[u8]) -> bool
     true
 }
 
-// The next byte of a form: `code` is 0 at its end and else one more than the byte; `at` and `state` are where the rest of it begins.
-pub struct Next {
-    pub code: u16,
-    pub at: usize,
-    pub state: u8,
+// The next byte of a form, unless it ends; `at` and `state` are where the rest of it begins.
+struct Next {
+    more: bool,
+    byte: u8,
+    at: usize,
+    state: u8,
 }
 
-fn give(b: u8, at: usize, state: u8) -> Next
-    ensures { λ r. ⌜ (r ≡ gives b at state) × (r .code ≤ 256) ⌝ }
-{
-    Next {
-        code: (b as u16) + 1,
-        at,
-        state,
-    }
-}
-
-// The first byte of the first word, and of a later one: it stands at `at`, and the rest of its word from `after` on.
+// The first byte of the first word.
 fn first_byte(lower: &[u8; 256], upper: &[u8; 256], b: u8, up: bool, after: usize) -> Next
     requires { ⌜ (now lower ≡ table lowerOf) × (now upper ≡ table upperOf) ⌝ }
-    ensures { λ r. ⌜ (r ≡ pick up (gives (upperOf b) after 1) (gives (lowerOf b) after 1)) × (r .code ≤ 256) ⌝ }
+    ensures { λ r. ⌜ r ≡ pick up (gives (upperOf b) after 1) (gives (lowerOf b) after 1) ⌝ }
 {
-    if up {
-        return give(upper_in(upper, b), after, 1);
+    let byte = if up {
+        upper_in(upper, b)
+    } else {
+        lower_in(lower, b)
+    };
+    Next {
+        more: true,
+        byte,
+        at: after,
+        state: 1,
     }
-    give(lower_in(lower, b), after, 1)
 }
 
+// The first byte of a later word, or the `_` before it.
 fn later_byte(upper: &[u8; 256], b: u8, bar: bool, at: usize, after: usize) -> Next
     requires { ⌜ now upper ≡ table upperOf ⌝ }
-    ensures { λ r. ⌜ (r ≡ pick bar (gives 95 at 3) (gives (upperOf b) after 1)) × (r .code ≤ 256) ⌝ }
+    ensures { λ r. ⌜ r ≡ pick bar (gives 95 at 3) (gives (upperOf b) after 1) ⌝ }
 {
     if bar {
-        return give(b'_', at, 3);
+        return Next {
+            more: true,
+            byte: b'_',
+            at,
+            state: 3,
+        };
     }
-    give(upper_in(upper, b), after, 1)
+    Next {
+        more: true,
+        byte: upper_in(upper, b),
+        at: after,
+        state: 1,
+    }
+}
+
+// Whether a byte that is no break begins a later word.
+fn begins_later(class: &[u8; 256], b: u8, state: u8) -> bool
+    requires { ⌜ now class ≡ table classOf ⌝ }
+    ensures { λ r. ⌜ r ≡ (eqb state 2 || (eqb state 1 && isUpper b)) ⌝ }
+{
+    (state == 2) | ((state == 1) & is_upper(class, b))
 }
 
 // A byte that is no break.
@@ -208,16 +226,15 @@ fn word_byte(
     if state == 0 {
         return first_byte(lower, upper, b, up, after);
     }
-    if state == 2 {
+    if begins_later(class, b, state) {
         return later_byte(upper, b, bar, at, after);
     }
-    if state == 1 {
-        if is_upper(class, b) {
-            return later_byte(upper, b, bar, at, after);
-        }
-        return give(lower_in(lower, b), after, 1);
+    Next {
+        more: true,
+        byte: lower_in(lower, b),
+        at: after,
+        state: 1,
     }
-    give(lower_in(lower, b), after, 1)
 }
 
 fn after_break(state: u8) -> u8
@@ -254,7 +271,8 @@ fn next_byte(
         }
     }
     Next {
-        code: 0,
+        more: false,
+        byte: 0,
         at: i,
         state: s,
     }
@@ -279,13 +297,14 @@ fn build(name: &[u8], up: bool, bar: bool) -> Form
     let mut state: u8 = 0;
     loop {
         let next = next_byte(&class, &lower, &upper, name, up, bar, at, state);
-        if next.code == 0 {
+        if next.more {
+            bytes[len] = next.byte;
+            len += 1;
+            at = next.at;
+            state = next.state;
+        } else {
             return Form { bytes, len };
         }
-        bytes[len] = (next.code - 1) as u8;
-        len += 1;
-        at = next.at;
-        state = next.state;
     }
 }
 
@@ -339,6 +358,16 @@ pub enum Order {
     Greater,
 }
 
+// 0 for the end of a form, and else one more than the byte: the end comes before every byte.
+fn code(next: Next) -> u16
+    ensures { λ r. ⌜ r ≡ codeOf next ⌝ }
+{
+    if next.more {
+        return (next.byte as u16) + 1;
+    }
+    0
+}
+
 // The order of two names. The snake forms are compared byte by byte, up to the first difference, and neither is built; the tables are lent, so
 // that a caller who compares many names makes them once.
 pub fn compare_in(
@@ -358,13 +387,15 @@ pub fn compare_in(
     loop {
         let x = next_byte(class, lower, upper, a, false, true, i, s);
         let y = next_byte(class, lower, upper, b, false, true, j, t);
-        if x.code < y.code {
+        let p = code(x);
+        let q = code(y);
+        if p < q {
             return Order::Less;
         }
-        if y.code < x.code {
+        if q < p {
             return Order::Greater;
         }
-        if x.code == 0 {
+        if p == 0 {
             return Order::Equal;
         }
         i = x.at;

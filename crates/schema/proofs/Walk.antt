@@ -3,17 +3,23 @@ use Prim.Native.Nat.{ℕ, _+_, _-_, _≤_, _<_}
 use mathlib.Core.Path.{_≡_, refl, sym, ap, _∙_}
 use mathlib.Core.Bool.{Bool, true, _&&_}
 use mathlib.Core.List.{List, [], _∷_}
+use native.Mathlib.Nat.{zero-add}
 use native.Mathlib.Omega.{arith}
 use lib.ListN.{length, take, drop, length-drop, drop-of-length-le}
 use lib.Seq.{drop-drop}
 use Rattle.wire.specs.Bytes.{Bytes}
 use Rattle.wire.specs.Le.{leAt, u16At}
+use Rattle.wire.specs.Pick.{pick}
 use Rattle.token.specs.Token.{Token}
 use Rattle.token.specs.Table.{sizeOf, tokenOf}
 use Rattle.schema.specs.Payload.{isPayload}
 use Rattle.schema.specs.Table.{recordsOf, isFramed, mayFollow, isRight, isNext, areNext, rowAfter, outset, isSchemaTable}
 use Rattle.schema.specs.Walk.{recordsFrom, kindAt, nextAt, payloadAt, tokenAt, WholeAt, Stands}
+use Rattle.schema.specs.Kind.{sField}
+use Rattle.schema.specs.Limits.{nesting}
+use Rattle.schema.specs.Decode.{typeOf}
 use Rattle.schema.proofs.Records.{both, Whole, records-step, framed-step, framed-whole}
+use Rattle.schema.proofs.Steps.{NextIs, next-is, at-field, nested}
 
 module _ (t : Bytes) (at : ℕ) where
   pub token-is : tokenOf (drop at t) ≡ tokenAt t at
@@ -95,3 +101,15 @@ record-at {t} {at} {may} s h =
             right = f .1;
           };
     }
+
+-- at most 64 arrays nest in the type after a field's record
+row-field : (row k : ℕ) → k ≡ sField → rowAfter row k ≡ 0
+unfolding rowAfter pick
+row-field row k e = rw e
+
+pub type-nested : {t : Bytes} {at : ℕ} {may : ℕ → Bool} → Stands t at may → at < length t → kindAt t at ≡ sField → nesting (typeOf (recordsFrom t (nextAt t at))) ≤ 64
+type-nested {t} {at} s h e =
+    let r = record-at s h in
+    let n : NextIs (s .before) (s .row) (tokenAt t at) (recordsFrom t (nextAt t at)) = next-is (rw (r .records) at (s .right)) in
+    let f = at-field (recordsFrom t (nextAt t at)) (tokenAt t at) e (r .right) in
+    rw zero-add at (nested (recordsFrom t (nextAt t at)) (tokenAt t at) 0 (f .after) (omega arith) (rw (row-field (s .row) (kindAt t at) e) at (n .rest)))

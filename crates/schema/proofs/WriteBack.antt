@@ -22,7 +22,8 @@ use Rattle.schema.specs.Encode.{nowhere, indices}
 use Rattle.schema.specs.Payload.{nameOf, indicesOf, isTypePayload, isPayload}
 use Rattle.schema.specs.Table.{mayFollow, isOutside, isImporting, isInside, isType, isLater, rowAfter, isRight, isNext, areNext, outset}
 use Rattle.schema.specs.Decode.{rangeOf, openingOf, importOf, importsOf, typeOf, fieldsOf, deletedOf, declarationsOf, schemaOf, settled}
-use Rattle.schema.proofs.Records.{both, Fits}
+use Rattle.schema.proofs.Records.{Fits}
+use Rattle.schema.proofs.Steps.{After, at-kind, never, either, NextIs, next-is}
 use Rattle.schema.proofs.PayloadsRead.{Some, import-read, declaration-read, field-read, deleted-read, comment-read, plain-read, custom-read}
 use Rattle.schema.proofs.Written.{made, commentRecords, importRecords, typeRecords, fieldRecords, deletedRecords, declarationRecords, schemaRecords}
 
@@ -60,10 +61,6 @@ record ImportParts (last : Token) (rs : List Token) : Type 0 where
   later : last .kind ≡ sImport → isChainAfter isEarlier (importOf last) (importsOf rs) ≡ true
   declarations : Each DeclarationWithin (declarationsOf rs)
 
--- what may stand after a record
-abbrev After : Token → (ℕ → Bool) → Type 0
-After last f = (k : ℕ) → mayFollow (last .kind) k ≡ f k
-
 record Parts (rs : List Token) : Type 0 where
   outside : (last : Token) (row : ℕ) → After last isOutside → areNext last row rs ≡ true → OutsideParts rs
   inside : (last : Token) (row : ℕ) → After last isInside → areNext last row rs ≡ true → InsideParts rs
@@ -73,9 +70,6 @@ record Parts (rs : List Token) : Type 0 where
 none : DeletedWithin []
 none = record { each = tt; ascending = refl; few = omega arith }
 
-never : {A : Type 0} → _≡_ {A = Bool} false true → A
-never e = let z : _≡_ {A = ℕ} 0 1 = cc in absurd (omega arith)
-
 parts-end : Parts []
 parts-end = record {
   outside = λ last row f e. record { back = refl; declarations = tt };
@@ -83,31 +77,6 @@ parts-end = record {
   typed = λ last row f l e. never (sym (f 0) ∙ e);
   imports = λ last row f e. record { back = refl; imports = tt; ascending = refl; later = λ _. refl; declarations = tt };
 }
-
--- a record of a known kind
-at-kind : (P : Token → Type 0) (r : Token) {k : ℕ} → r .kind ≡ k → P (made k (rangeOf r) (r .payload)) → P r
-at-kind P r e h = subst (λ (k : ℕ). P (made k (rangeOf r) (r .payload))) (sym e) h
-
-either : {A : Type 0} (a b : Bool) → (a || b) ≡ true → (a ≡ true → A) → (b ≡ true → A) → A
-either true b e f g = f refl
-either false b e f g = g e
-
--- the parts of what is known of the next record
-record NextIs (last : Token) (row : ℕ) (r : Token) (rs : List Token) : Type 0 where
-  follow : mayFollow (last .kind) (r .kind) ≡ true
-  payload : isPayload (r .kind) (r .payload) ≡ true
-  later : isLater (last .kind) (last .payload) (r .kind) (r .payload) ≡ true
-  nested : rowAfter row (r .kind) ≤ 64
-  rest : areNext r (rowAfter row (r .kind)) rs ≡ true
-
-next-is : {last : Token} {row : ℕ} {r : Token} {rs : List Token} → areNext last row (r ∷ rs) ≡ true → NextIs last row r rs
-unfolding isNext isRight
-next-is {last} {row} {r} e =
-    let a = both (isNext last row r) _ e in
-    let d = both (isRight (last .kind) row (r .kind) (r .payload)) _ (a .0) in
-    let b = both (mayFollow (last .kind) (r .kind)) _ (d .0) in
-    let c = both (isPayload (r .kind) (r .payload)) _ (b .1) in
-    record { follow = b .0; payload = c .0; nested = leb-true (rowAfter row (r .kind)) 64 (c .1); later = d .1; rest = a .1 }
 
 -- one more record in front
 module _ (rs : List Token) (h : Parts rs) (last : Token) (row : ℕ) where
