@@ -1,10 +1,10 @@
--- `identifier::class_table`: the table's rule holds over all entries, by computing them.
+-- `identifier::tables::class_table`: the table's rule holds over all entries, by computing them.
 use mathlib.Core.Path.{refl}
 use Rattle.wire.specs.Pick.{pick}
 use Rattle.identifier.specs.Byte.{classOf}
 use Rattle.identifier.specs.Table.{table}
-use Rattle.identifier.proofs.class_table.Statement.{statement}
-use Rattle.identifier.proofs.class_table.Tie as tie
+use Rattle.identifier.proofs.tables.class_table.Statement.{statement}
+use Rattle.identifier.proofs.tables.class_table.Tie as tie
 
 returns : tie.Need-returns
 unfolding table classOf pick

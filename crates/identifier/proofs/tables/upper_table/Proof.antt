@@ -1,10 +1,10 @@
--- `identifier::upper_table`: the table's rule holds over all entries, by computing them.
+-- `identifier::tables::upper_table`: the table's rule holds over all entries, by computing them.
 use mathlib.Core.Path.{refl}
 use Rattle.wire.specs.Pick.{pick}
 use Rattle.identifier.specs.Byte.{upperOf}
 use Rattle.identifier.specs.Table.{table}
-use Rattle.identifier.proofs.upper_table.Statement.{statement}
-use Rattle.identifier.proofs.upper_table.Tie as tie
+use Rattle.identifier.proofs.tables.upper_table.Statement.{statement}
+use Rattle.identifier.proofs.tables.upper_table.Tie as tie
 
 returns : tie.Need-returns
 unfolding table upperOf pick

@@ -1,9 +1,9 @@
--- `identifier::lower_in`: the table's rule at this byte.
+-- `identifier::tables::lower_in`: the table's rule at this byte.
 use borrow.Author.Needs.{needs}
 use Rattle.identifier.specs.Byte.{lowerOf}
 use Rattle.identifier.proofs.Table.{table-at}
-use Rattle.identifier.proofs.lower_in.Statement.{statement}
-use Rattle.identifier.proofs.lower_in.Tie as tie
+use Rattle.identifier.proofs.tables.lower_in.Statement.{statement}
+use Rattle.identifier.proofs.tables.lower_in.Tie as tie
 
 returns : tie.Need-returns
 returns c = rw (c .before .pre) (table-at lowerOf (c .before .args .b) (search needs))

@@ -1,9 +1,9 @@
--- `identifier::class_in`: the table's rule at this byte.
+-- `identifier::tables::class_in`: the table's rule at this byte.
 use borrow.Author.Needs.{needs}
 use Rattle.identifier.specs.Byte.{classOf}
 use Rattle.identifier.proofs.Table.{table-at}
-use Rattle.identifier.proofs.class_in.Statement.{statement}
-use Rattle.identifier.proofs.class_in.Tie as tie
+use Rattle.identifier.proofs.tables.class_in.Statement.{statement}
+use Rattle.identifier.proofs.tables.class_in.Tie as tie
 
 returns : tie.Need-returns
 returns c = rw (c .before .pre) (table-at classOf (c .before .args .b) (search needs))

@@ -1,11 +1,11 @@
--- `identifier::is_name`: the loop has seen printable bytes (`Good`).
+-- `identifier::tables::is_name`: the loop has seen printable bytes (`Good`).
 use mathlib.Core.Path.{refl}
 use Prim.Native.Nat.{_-_}
 use lib.ListN.{length}
 use Rattle.identifier.proofs.Good.{Good, good, bad, too-short, too-long, all-good}
 use borrow.Author.Needs.{needs}
-use Rattle.identifier.proofs.is_name.Statement.{statement}
-use Rattle.identifier.proofs.is_name.Tie as tie
+use Rattle.identifier.proofs.tables.is_name.Statement.{statement}
+use Rattle.identifier.proofs.tables.is_name.Tie as tie
 
 abbrev Inv-loop : tie.InvT-loop
 Inv-loop class name i₀ i = Good name i

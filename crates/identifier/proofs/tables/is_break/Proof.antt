@@ -1,8 +1,8 @@
--- `identifier::is_break`: the test of a byte is a comparison of its class.
+-- `identifier::tables::is_break`: the test of a byte is a comparison of its class.
 use borrow.Author.Needs.{needs}
 use Rattle.identifier.proofs.Table.{class-break}
-use Rattle.identifier.proofs.is_break.Statement.{statement}
-use Rattle.identifier.proofs.is_break.Tie as tie
+use Rattle.identifier.proofs.tables.is_break.Statement.{statement}
+use Rattle.identifier.proofs.tables.is_break.Tie as tie
 
 returns : tie.Need-returns
 returns c = rw (c .class-in .ensures, class-break (c .before .args .b) (search needs))

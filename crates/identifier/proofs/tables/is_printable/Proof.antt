@@ -1,8 +1,8 @@
--- `identifier::is_printable`: the test of a byte is a comparison of its class.
+-- `identifier::tables::is_printable`: the test of a byte is a comparison of its class.
 use borrow.Author.Needs.{needs}
 use Rattle.identifier.proofs.Table.{class-printable}
-use Rattle.identifier.proofs.is_printable.Statement.{statement}
-use Rattle.identifier.proofs.is_printable.Tie as tie
+use Rattle.identifier.proofs.tables.is_printable.Statement.{statement}
+use Rattle.identifier.proofs.tables.is_printable.Tie as tie
 
 returns : tie.Need-returns
 returns c = rw (c .class-in .ensures, class-printable (c .before .args .b) (search needs))

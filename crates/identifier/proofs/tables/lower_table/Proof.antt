@@ -1,10 +1,10 @@
--- `identifier::lower_table`: the table's rule holds over all entries, by computing them.
+-- `identifier::tables::lower_table`: the table's rule holds over all entries, by computing them.
 use mathlib.Core.Path.{refl}
 use Rattle.wire.specs.Pick.{pick}
 use Rattle.identifier.specs.Byte.{lowerOf}
 use Rattle.identifier.specs.Table.{table}
-use Rattle.identifier.proofs.lower_table.Statement.{statement}
-use Rattle.identifier.proofs.lower_table.Tie as tie
+use Rattle.identifier.proofs.tables.lower_table.Statement.{statement}
+use Rattle.identifier.proofs.tables.lower_table.Tie as tie
 
 returns : tie.Need-returns
 unfolding table lowerOf pick

@@ -1,8 +1,8 @@
--- `identifier::is_upper`: the test of a byte is a comparison of its class.
+-- `identifier::tables::is_upper`: the test of a byte is a comparison of its class.
 use borrow.Author.Needs.{needs}
 use Rattle.identifier.proofs.Table.{class-upper}
-use Rattle.identifier.proofs.is_upper.Statement.{statement}
-use Rattle.identifier.proofs.is_upper.Tie as tie
+use Rattle.identifier.proofs.tables.is_upper.Statement.{statement}
+use Rattle.identifier.proofs.tables.is_upper.Tie as tie
 
 returns : tie.Need-returns
 returns c = rw (c .class-in .ensures, class-upper (c .before .args .b) (search needs))
