@@ -1,23 +1,22 @@
 -- Rules over a cursor: one token, one rule after the other, an optional part.
-use Prim.Native.Nat.{ℕ, zero, suc, _+_, _*_, _≤_, _<_, max}
+use Prim.Native.Nat.{ℕ, zero, suc, _≤_, _<_}
 use mathlib.Core.Path.{_≡_, refl, sym, ap, _∙_}
-use mathlib.Core.Bool.{Bool, true, false, not, true≢false}
+use mathlib.Core.Bool.{Bool, true, false, true≢false}
 use mathlib.Core.Option.{Option, none, some}
 use mathlib.Core.List.{List, [], _∷_}
 use native.Mathlib.Omega.{arith}
 use borrow.Author.Tests.{ltb-true, ltb-false}
-use lib.Dec.{eqb, ltb}
+use lib.Dec.{ltb}
 use lib.ListN.{length}
 use Rattle.wire.specs.Bytes.{Bytes}
 use Rattle.wire.specs.Pick.{pick}
 use Rattle.token.specs.Token.{Token}
-use Rattle.token.specs.Kind.{kRightSquare}
 use Rattle.token.specs.Places.{tokAt, nextAt, tokensFrom, Wf}
 use Rattle.token.proofs.Walk.{tokens-end, tokens-step, wf-good, wf-next}
 use Rattle.grammar.specs.Error.{kindAt}
 use Rattle.grammar.specs.Reading.{Result, ok, fail, andThen, consume, optional}
 use Rattle.grammar.proofs.Rules.{consume-complete, optional-none}
-use Rattle.parser.specs.Steps.{ahead, past, Stands, Stepped, Reads, TokenPassed, Skipped}
+use Rattle.parser.specs.Steps.{ahead, Stepped, Reads, TokenPassed, Skipped}
 use Rattle.parser.specs.declared.Cursor.{Cursor}
 
 -- the kind ahead tells whether a token stands there
