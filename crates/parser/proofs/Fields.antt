@@ -4,6 +4,7 @@ use native.Mathlib.Omega.{arith}
 use Rattle.wire.specs.Bytes.{Bytes}
 use Rattle.token.specs.Kind.{isRule, kColon, kComment, kEquals, kIdentifier, kInteger}
 use Rattle.token.specs.Places.{Wf}
+use Rattle.token.proofs.Walk.{next-past}
 use Rattle.grammar.specs.Reading.{fail, is, consume, optional, parseTypePart, parseField}
 use Rattle.parser.specs.Steps.{Reads, TokenPassed, Skipped, PartPassed, FieldRead}
 use Rattle.parser.specs.declared.Cursor.{Cursor}
@@ -45,5 +46,5 @@ module _ {t : Bytes} {c colon : Cursor} {o x : Skip} (n : Named t c o x colon) w
               index = i .here;
             };
             first = rw (n .rule .first) (n .comment .first);
-            eats = omega (arith, n .comment .read .onward, n .rule .read .onward, n .name .read .onward, y .read .onward, e .read .onward, i .place);
+            eats = omega (arith, n .comment .read .onward, n .rule .read .onward, n .name .read .onward, y .read .onward, e .read .onward, i .place, next-past t (index .at));
           }

@@ -11,6 +11,7 @@ use Rattle.wire.specs.Pick.{pick}
 use Rattle.token.specs.Token.{Token}
 use Rattle.token.specs.Kind.{isKeyword, kComment, kIdentifier, kLeftCurly, kStruct}
 use Rattle.token.specs.Places.{tokAt, Wf}
+use Rattle.token.proofs.Walk.{next-past}
 use Rattle.grammar.specs.Error.{kindAt}
 use Rattle.grammar.specs.Reading.{Result, ok, fail, is, consume, parseKeyword, nameNumber, parseHead}
 use Rattle.grammar.proofs.Rules.{optional-token-sound}
@@ -75,5 +76,5 @@ module _ {t : Bytes} {c name : Cursor} {o : Skip} {number : ℕ} (b : Begun t c 
           read = rw (← p .place) (then _ (b .comment .read) (then _ kw (then _ (named (p .read)) (then _ (q .read) (done (q .read .wf))))));
           stands = record { first = (b .wf, omega (arith, b .comment .read .onward, b .step .here .1)); keyword = b .step .here; name = p .here };
           first = b .comment .first;
-          eats = omega (arith, b .comment .read .onward, kw .onward, p .read .onward, q .place);
+          eats = omega (arith, b .comment .read .onward, kw .onward, p .read .onward, q .place, next-past t (left .at));
         }

@@ -12,7 +12,7 @@ use Rattle.wire.specs.Bytes.{Bytes}
 use Rattle.wire.specs.Pick.{pick}
 use Rattle.token.specs.Token.{Token}
 use Rattle.token.specs.Places.{tokAt, nextAt, tokensFrom, Wf}
-use Rattle.token.proofs.Walk.{tokens-end, tokens-step, wf-good, wf-next}
+use Rattle.token.proofs.Walk.{tokens-end, tokens-step, wf-good, wf-next, next-past}
 use Rattle.grammar.specs.Error.{kindAt}
 use Rattle.grammar.specs.Reading.{Result, ok, fail, andThen, consume, optional}
 use Rattle.grammar.proofs.Rules.{consume-complete, optional-none}
@@ -61,7 +61,7 @@ module _ {t : Bytes} {c d : Cursor} where
   pub consumed : (n : ℕ) (test : ℕ → Bool) → Stepped t c d → test (kindAt (ahead t c)) ≡ true → TokenPassed t c (consume n test) d
   consumed n test s e =
       record {
-        read = record { gives = rw (s .first) (consume-complete n test _ _ (rw (s .first) at e)); wf = s .wf; onward = omega (arith, s .place) };
+        read = record { gives = rw (s .first) (consume-complete n test _ _ (rw (s .first) at e)); wf = s .wf; onward = omega (arith, s .place, next-past t (c .at)) };
         here = s .here;
         place = s .place;
       }
@@ -94,7 +94,7 @@ module _ {A : Type 0} {t : Bytes} {c : Cursor} (test : ℕ → Bool) (rule : Tok
         record {
           gives = rw (s .first) (rw (rw (s .first) at k, optional) (h .gives));
           wf = h .wf;
-          onward = omega (arith, s .place, h .onward);
+          onward = omega (arith, s .place, h .onward, next-past t (c .at));
         }
 
     pub present : {x : A} → Reads t d (rule (tokAt t (c .at))) (ok x) e → Reads t c (optional test rule) (ok (some x)) e

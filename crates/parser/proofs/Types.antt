@@ -15,7 +15,7 @@ use Rattle.token.specs.Token.{Token}
 use Rattle.token.specs.Kind.{isPlain, kDot, kIdentifier, kLeftSquare, kRightSquare}
 use Rattle.token.specs.Payload.{isPayload}
 use Rattle.token.specs.Places.{tokAt, nextAt, Wf}
-use Rattle.token.proofs.Walk.{tokens-step, wf-good, wf-inside, next-is, payload-length}
+use Rattle.token.proofs.Walk.{tokens-step, wf-good, wf-inside, next-is, next-past, payload-length}
 use Rattle.grammar.specs.Error.{kindAt}
 use Rattle.grammar.specs.Tree.{TypeTree}
 use Rattle.grammar.specs.Reading.{Result, ok, fail, is, consume, isDotted, parseDotted, parseSingle, parseClosing, parseType}
@@ -80,7 +80,7 @@ module _ {t : Bytes} {c : Cursor} (n : kindAt (ahead t c) ≢ kLeftSquare) where
     plain e =
         let o = other e in
         let k = not-kind isPlain (tokAt t (c .at) .kind) kIdentifier (o .1) refl in
-        base false (rw k (record { gives = rw (s .first) (rw (o .0, o .1, parseType)); wf = s .wf; onward = omega (arith, s .place) })) (s .here)
+        base false (rw k (record { gives = rw (s .first) (rw (o .0, o .1, parseType)); wf = s .wf; onward = omega (arith, s .place, next-past t (c .at)) })) (s .here)
 
     module _ (e : isPlain (kindAt (ahead t c)) ≡ false) where
       pub as-dotted : isDotted (ahead t d) ≡ true → (r : TypeStep) → TypeRead t c parseDotted r → TypeRead t c parseType r
@@ -103,7 +103,7 @@ module _ {t : Bytes} {c d : Cursor} where
       record {
         gives = rw (tokens-step t (c .at) (s .1)) (rw (eq-eqb _ _ e, parseType) (r .gives));
         wf = r .wf;
-        onward = omega (arith, r .onward);
+        onward = omega (arith, r .onward, next-past t (c .at));
       }
 
   pub opened : {inner : TypeStep} → Stepped t c d → kindAt (ahead t c) ≡ kLeftSquare → TypeRead t d parseType inner → Opened t c inner
