@@ -1,7 +1,7 @@
 -- Heads of declarations: comment, keyword, name, `{`, one after the other.
-use Prim.Native.Nat.{ℕ, max}
-use mathlib.Core.Path.{_≡_, refl, sym, ap, _∙_}
-use mathlib.Core.Bool.{Bool, true, false, _&&_, true≢false, and-eq-true-iff}
+use Prim.Native.Nat.{ℕ}
+use mathlib.Core.Path.{_≡_, refl, sym, ap}
+use mathlib.Core.Bool.{Bool, true, false, _&&_, not, true≢false, and-eq-true-iff}
 use mathlib.Core.List.{List, [], _∷_}
 use native.Mathlib.Omega.{arith}
 use borrow.Author.Tests.{eqb-true}
@@ -10,9 +10,10 @@ use Rattle.wire.specs.Bytes.{Bytes}
 use Rattle.wire.specs.Pick.{pick}
 use Rattle.token.specs.Token.{Token}
 use Rattle.token.specs.Kind.{isKeyword, kComment, kIdentifier, kLeftCurly, kStruct}
-use Rattle.token.specs.Places.{tokAt, nextAt, Wf}
+use Rattle.token.specs.Places.{tokAt, Wf}
+use Rattle.token.proofs.Walk.{next-past}
 use Rattle.grammar.specs.Error.{kindAt}
-use Rattle.grammar.specs.Reading.{Result, ok, fail, is, consume, optional, parseKeyword, nameNumber, parseHead}
+use Rattle.grammar.specs.Reading.{Result, ok, fail, is, consume, parseKeyword, nameNumber, parseHead}
 use Rattle.grammar.proofs.Rules.{optional-token-sound}
 use Rattle.parser.specs.Trees.{when}
 use Rattle.parser.specs.Steps.{ahead, Stepped, Reads, TokenPassed, Skipped, HeadRead}
@@ -27,42 +28,53 @@ keyword-is false o ts e = refl
 keyword-is true o [] e = absurd (true≢false e)
 keyword-is true o (x ∷ ts) e = refl
 
-module _ {t : Bytes} {c : Cursor} {comment : Skip} (o : Skipped t c (is kComment) comment) where
-  pub comment-ends : Wf t (c .at) → (comment .there && eqb (kindAt (ahead t (comment .next))) 0) ≡ true → Reads t c parseHead (fail 18) c
+-- a token follows the comment, or there is no comment
+abbrev pub Goes : Bytes → Skip → Bool → Type 0
+Goes t o b = (o .there && eqb (kindAt (ahead t (o .next))) 0) ≡ not b
+
+module _ {t : Bytes} {c : Cursor} {o : Skip} (s : Skipped t c (is kComment) o) where
+  pub comment-ends : Wf t (c .at) → Goes t o false → Reads t c parseHead (fail 18) c
   comment-ends w e =
-      let b = and-eq-true-iff (comment .there) _ .0 e in
-      let n = none-left t (comment .next .at) (o .read .wf) (eqb-true _ 0 (b .1)) in
-      let r = rw (b .0, n) at (o .read .gives) in
-      let q = optional-token-sound (is kComment) (ahead t c) r .0 in
-      record { gives = rw r (sym (ap (fail 18) q)); wf = w; onward = omega arith }
+      let b = and-eq-true-iff (o .there) _ .0 e in
+      let r = rw (b .0, none-left t (o .next .at) (s .read .wf) (eqb-true _ 0 (b .1))) at (s .read .gives) in
+      record { gives = rw r (sym (ap (fail 18) (optional-token-sound (is kComment) (ahead t c) r .0))); wf = w; onward = omega arith }
 
-  module _ (e : (comment .there && eqb (kindAt (ahead t (comment .next))) 0) ≡ false) where
-    keyword : {out : List Token → Result Token} {d : Cursor} → Reads t (comment .next) (consume 1 isKeyword) out d → Reads t (comment .next) (parseKeyword (when (comment .there) (tokAt t (c .at)))) out d
-    keyword r = alike (consume 1 isKeyword) (parseKeyword (when (comment .there) (tokAt t (c .at)))) (keyword-is (comment .there) _ _ e) r
+  keyword : {out : List Token → Result Token} {d : Cursor} → Goes t o true → Reads t (o .next) (consume 1 isKeyword) out d
+      → Reads t (o .next) (parseKeyword (when (o .there) (tokAt t (c .at)))) out d
+  keyword e r = alike (consume 1 isKeyword) (parseKeyword (when (o .there) (tokAt t (c .at)))) (keyword-is (o .there) _ _ e) r
 
-    pub keyword-fails : isKeyword (kindAt (ahead t (comment .next))) ≡ false → Reads t c parseHead (fail 1) (comment .next)
-    keyword-fails k = then _ (o .read) (stop _ (keyword (not-consumed 1 isKeyword (o .read .wf) k)))
+  pub keyword-fails : Goes t o true → isKeyword (kindAt (ahead t (o .next))) ≡ false → Reads t c parseHead (fail 1) (o .next)
+  keyword-fails e k = then _ (s .read) (stop _ (keyword e (not-consumed 1 isKeyword (s .read .wf) k)))
 
-    module _ {name : Cursor} {number : ℕ} (s : Stepped t (comment .next) name) (k : isKeyword (kindAt (ahead t (comment .next))) ≡ true) (m : number ≡ pick (eqb (kindAt (ahead t (comment .next))) kStruct) 2 3) where
-      number-is : number ≡ nameNumber (tokAt t (comment .next .at))
-      number-is = rw (s .first) at m
+-- what was read up to the keyword, and the number of a name that is missing after it
+pub record Begun (t : Bytes) (c : Cursor) (o : Skip) (name : Cursor) (number : ℕ) : Type 0 where
+  pub wf : Wf t (c .at)
+  pub comment : Skipped t c (is kComment) o
+  pub goes : Goes t o true
+  pub step : Stepped t (o .next) name
+  pub keyword : isKeyword (kindAt (ahead t (o .next))) ≡ true
+  pub missing : number ≡ pick (eqb (kindAt (ahead t (o .next))) kStruct) 2 3
 
-      kw : TokenPassed t (comment .next) (consume 1 isKeyword) name
-      kw = consumed 1 isKeyword s k
+module _ {t : Bytes} {c name : Cursor} {o : Skip} {number : ℕ} (b : Begun t c o name number) where
+  kw : Reads t (o .next) (parseKeyword (when (o .there) (tokAt t (c .at)))) (ok (tokAt t (o .next .at))) name
+  kw = keyword (b .comment) (b .goes) (consumed 1 isKeyword (b .step) (b .keyword) .read)
 
-      pub name-fails : {n : ℕ} {d : Cursor} → Reads t name (consume number (is kIdentifier)) (fail n) d → Reads t c parseHead (fail n) d
-      name-fails r = then _ (o .read) (then _ (keyword (kw .read)) (stop _ (rw number-is at r)))
+  named : {out : List Token → Result Token} {d : Cursor} → Reads t name (consume number (is kIdentifier)) out d → Reads t name (consume (nameNumber (tokAt t (o .next .at))) (is kIdentifier)) out d
+  named r = rw (rw (b .step .first) at (b .missing)) at r
 
-      module _ {left : Cursor} (p : TokenPassed t name (consume number (is kIdentifier)) left) where
-        pub left-fails : {n : ℕ} {d : Cursor} → Reads t left (consume 4 (is kLeftCurly)) (fail n) d → Reads t c parseHead (fail n) d
-        left-fails r = then _ (o .read) (then _ (keyword (kw .read)) (then _ (rw number-is at (p .read)) (stop _ r)))
+  pub name-fails : {n : ℕ} {d : Cursor} → Reads t name (consume number (is kIdentifier)) (fail n) d → Reads t c parseHead (fail n) d
+  name-fails r = then _ (b .comment .read) (then _ kw (stop _ (named r)))
 
-        pub head : {after : Cursor} → Wf t (c .at) → TokenPassed t left (consume 4 (is kLeftCurly)) after
-            → HeadRead t c (Passed (record { first = c .at; commented = comment .there; keyword = comment .next .at; name = name .at }) after)
-        head w q =
-            record {
-              read = rw (← p .place) (then _ (o .read) (then _ (keyword (kw .read)) (then _ (rw number-is at (p .read)) (then _ (q .read) (done (q .read .wf))))));
-              stands = record { first = (w, omega (arith, o .read .onward, s .here .1)); keyword = s .here; name = p .here };
-              first = o .first;
-              eats = omega (arith, o .read .onward, kw .read .onward, p .read .onward, q .place);
-            }
+  module _ {left : Cursor} (p : TokenPassed t name (consume number (is kIdentifier)) left) where
+    pub left-fails : {n : ℕ} {d : Cursor} → Reads t left (consume 4 (is kLeftCurly)) (fail n) d → Reads t c parseHead (fail n) d
+    left-fails r = then _ (b .comment .read) (then _ kw (then _ (named (p .read)) (stop _ r)))
+
+    pub head : {after : Cursor} → TokenPassed t left (consume 4 (is kLeftCurly)) after
+        → HeadRead t c (Passed (record { first = c .at; commented = o .there; keyword = o .next .at; name = name .at }) after)
+    head q =
+        record {
+          read = rw (← p .place) (then _ (b .comment .read) (then _ kw (then _ (named (p .read)) (then _ (q .read) (done (q .read .wf))))));
+          stands = record { first = (b .wf, omega (arith, b .comment .read .onward, b .step .here .1)); keyword = b .step .here; name = p .here };
+          first = b .comment .first;
+          eats = omega (arith, b .comment .read .onward, kw .onward, p .read .onward, q .place, next-past t (left .at));
+        }

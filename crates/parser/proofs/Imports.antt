@@ -1,19 +1,15 @@
 -- Imports: the path, then the name after `as` where there is one.
-use Prim.Native.Nat.{ℕ, _+_, _≤_, _<_, max}
-use mathlib.Core.Path.{_≡_, refl, sym, ap, subst, _∙_}
-use mathlib.Core.Bool.{Bool, true, false, _&&_, true≢false}
-use mathlib.Core.Option.{Option, none, some}
-use mathlib.Core.List.{List, [], _∷_}
-use native.Mathlib.Omega.{arith}
-use lib.Dec.{eqb}
-use lib.ListN.{length}
+use Prim.Native.Nat.{ℕ}
+use mathlib.Core.Path.{_≡_, refl, subst}
+use mathlib.Core.Bool.{true, false}
+use mathlib.Core.List.{List}
 use Rattle.wire.specs.Bytes.{Bytes}
 use Rattle.token.specs.Token.{Token}
 use Rattle.token.specs.Kind.{kAs, kIdentifier, kPath}
-use Rattle.token.specs.Places.{tokAt, nextAt, Wf}
+use Rattle.token.specs.Places.{tokAt}
 use Rattle.grammar.specs.Error.{kindAt}
 use Rattle.grammar.specs.Tree.{ImportTree}
-use Rattle.grammar.specs.Reading.{Result, ok, fail, is, consume, optional, parseAlias, parseImport}
+use Rattle.grammar.specs.Reading.{Result, fail, is, consume, parseAlias, parseImport}
 use Rattle.parser.specs.Steps.{ahead, past, Stepped, Reads, TokenPassed, ImportRead}
 use Rattle.parser.specs.declared.Cursor.{Cursor}
 use Rattle.parser.specs.declared.ImportStep.the-variants.{Passed}

@@ -1,5 +1,5 @@
 -- Types: a base of one token or dotted, and a pair of brackets around a type.
-use Prim.Native.Nat.{ℕ, zero, suc, _+_, _*_, _≤_, _<_, max}
+use Prim.Native.Nat.{ℕ, _+_}
 use mathlib.Core.Path.{_≡_, refl, sym, ap, subst, _∙_}
 use mathlib.Core.Logic.{_≢_}
 use mathlib.Core.Bool.{Bool, true, false, not}
@@ -15,13 +15,13 @@ use Rattle.token.specs.Token.{Token}
 use Rattle.token.specs.Kind.{isPlain, kDot, kIdentifier, kLeftSquare, kRightSquare}
 use Rattle.token.specs.Payload.{isPayload}
 use Rattle.token.specs.Places.{tokAt, nextAt, Wf}
-use Rattle.token.proofs.Walk.{tokens-step, wf-good, wf-inside, next-is, payload-length}
+use Rattle.token.proofs.Walk.{tokens-step, wf-good, wf-inside, next-is, next-past, payload-length}
 use Rattle.grammar.specs.Error.{kindAt}
-use Rattle.grammar.specs.Tree.{TypeTree, array}
+use Rattle.grammar.specs.Tree.{TypeTree}
 use Rattle.grammar.specs.Reading.{Result, ok, fail, is, consume, isDotted, parseDotted, parseSingle, parseClosing, parseType}
-use Rattle.grammar.proofs.Rules.{not-kind, token-sound}
-use Rattle.parser.specs.Trees.{baseAt, typeAt}
-use Rattle.parser.specs.Steps.{ahead, past, Stands, Stepped, Reads, TokenPassed, BaseStands, TypePassed, TypeRead, baseStep, Opened}
+use Rattle.grammar.proofs.Rules.{cons≢nil, not-kind, token-sound}
+use Rattle.parser.specs.Trees.{baseAt}
+use Rattle.parser.specs.Steps.{ahead, past, Stands, Stepped, Reads, TokenPassed, BaseStands, TypeRead, baseStep, Opened}
 use Rattle.parser.specs.declared.Cursor.{Cursor}
 use Rattle.parser.specs.declared.TypePlaces.{TypePlaces}
 use Rattle.parser.specs.declared.TypeStep.{TypeStep}
@@ -37,14 +37,11 @@ no-dot (d ∷ x ∷ ts) e n = sym (ne-eqb _ _ λ z. n (e ∙ z))
 pub dot : {t : Bytes} {c d : Cursor} → Stepped t c d → is kDot (kindAt (ahead t c)) ≡ true → not (eqb (kindAt (ahead t d)) 0) ≡ isDotted (ahead t c)
 dot {t} {c} {d} s e = rw (s .first) (go (ahead t d) refl)
   where
-    e′ : eqb (tokAt t (c .at) .kind) kDot ≡ true
-    e′ = rw (s .first) at e
-
     go : (ts : List Token) → ahead t d ≡ ts → not (eqb (kindAt ts) 0) ≡ isDotted (tokAt t (c .at) ∷ ts)
     go [] q = refl
     go (n ∷ ts) q =
-        let k : eqb (n .kind) 0 ≡ false = ne-eqb _ 0 λ z. let y : _≡_ {A = List Token} (n ∷ ts) [] = sym q ∙ none-left t (d .at) (s .wf) (ap kindAt q ∙ z) in let z : _≡_ {A = ℕ} 0 1 = cc in omega arith in
-        rw (k, e′)
+        let k : eqb (n .kind) 0 ≡ false = ne-eqb _ 0 λ z. cons≢nil (sym q ∙ none-left t (d .at) (s .wf) (ap kindAt q ∙ z)) in
+        rw (k, rw (s .first) at e)
 
 -- what one rule read, another that agrees with it here has read
 read-as : (t : Bytes) (c : Cursor) (rule rule′ : List Token → Result TypeTree) → rule′ (ahead t c) ≡ rule (ahead t c) → (r : TypeStep) → TypeRead t c rule r → TypeRead t c rule′ r
@@ -68,11 +65,12 @@ module _ {t : Bytes} {c after : Cursor} where
       base true (rw (← p .place, ← q .place) (then _ (p .read) (then _ (q .read) (then _ (r .read) (done (r .read .wf))))))
       (rw (← p .place, ← q .place) (p .here, q .here, r .here))
 
+-- no token
+pub no-type : {t : Bytes} {c : Cursor} → Wf t (c .at) → kindAt (ahead t c) ≡ 0 → Reads t c parseType (fail 9) c
+no-type {t} {c} w e = record { gives = rw (none-left t (c .at) w e); wf = w; onward = omega arith }
+
 -- a type that does not start with `[`
 module _ {t : Bytes} {c : Cursor} (n : kindAt (ahead t c) ≢ kLeftSquare) where
-  pub no-type : Wf t (c .at) → kindAt (ahead t c) ≡ 0 → Reads t c parseType (fail 9) c
-  no-type w e = record { gives = rw (none-left t (c .at) w e); wf = w; onward = omega arith }
-
   module _ {d : Cursor} (s : Stepped t c d) where
     other : {b : Bool} → isPlain (kindAt (ahead t c)) ≡ b → (eqb (tokAt t (c .at) .kind) kLeftSquare ≡ false) × (isPlain (tokAt t (c .at) .kind) ≡ b)
     other e = (ne-eqb _ _ (rw (s .first) at n), rw (s .first) at e)
@@ -82,7 +80,7 @@ module _ {t : Bytes} {c : Cursor} (n : kindAt (ahead t c) ≢ kLeftSquare) where
     plain e =
         let o = other e in
         let k = not-kind isPlain (tokAt t (c .at) .kind) kIdentifier (o .1) refl in
-        base false (rw k (record { gives = rw (s .first) (rw (o .0, o .1, parseType)); wf = s .wf; onward = omega (arith, s .place) })) (s .here)
+        base false (rw k (record { gives = rw (s .first) (rw (o .0, o .1, parseType)); wf = s .wf; onward = omega (arith, s .place, next-past t (c .at)) })) (s .here)
 
     module _ (e : isPlain (kindAt (ahead t c)) ≡ false) where
       pub as-dotted : isDotted (ahead t d) ≡ true → (r : TypeStep) → TypeRead t c parseDotted r → TypeRead t c parseType r
@@ -105,7 +103,7 @@ module _ {t : Bytes} {c d : Cursor} where
       record {
         gives = rw (tokens-step t (c .at) (s .1)) (rw (eq-eqb _ _ e, parseType) (r .gives));
         wf = r .wf;
-        onward = omega (arith, r .onward);
+        onward = omega (arith, r .onward, next-past t (c .at));
       }
 
   pub opened : {inner : TypeStep} → Stepped t c d → kindAt (ahead t c) ≡ kLeftSquare → TypeRead t d parseType inner → Opened t c inner

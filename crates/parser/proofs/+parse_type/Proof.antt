@@ -3,9 +3,10 @@ use Prim.Native.Nat.{ℕ, _-_, _<_}
 use mathlib.Core.Path.{sym, _∙_}
 use native.Mathlib.Omega.{arith}
 use lib.ListN.{length}
-use borrow.Author.Needs.{needs}
+use denote.Ref.{now}
 use borrow.Fn.Kinds.{In}
 use borrow.Fn.PlainCycle.{Measures, is, falls, and}
+use Rattle.token.proofs.Walk.{next-past}
 use Rattle.parser.proofs.Types.{opened}
 use Rattle.parser.proofs.parse_type.Reads as parse-type
 use Rattle.parser.proofs.parse_type.Kinds as parse-type-kinds
@@ -45,6 +46,8 @@ pub +parse-type-spec : {M : Type 1} → statement M
     (λ c κs. (c .before .before .before .pre .1, λ e. c .if1 .taken (c .before .kind-or-end .ensures ∙ e)))
     (λ c. c .parse-base .ensures)
     (λ c κs. (c .before .before .before .pre .1, omega (arith, c .if1 .left, c .before .kind-or-end .ensures)))
-    (λ c κs. (omega (arith, c .before .before .before .before .pre .0, c .next .ensures .here .1, c .next .ensures .place), c .next .ensures .wf))
+    (λ c κs.
+    let a = c .before .before .before .before .args in
+    (omega (arith, c .before .before .before .before .pre .0, c .next .ensures .here .1, c .next .ensures .place, next-past (now (a .t)) (a .c .at)), c .next .ensures .wf))
     (λ c κs. opened (c .before .next .ensures) (sym (c .before .before .before .kind-or-end .ensures) ∙ c .before .before .if1 .left) (c .parse-type .ensures))
     (λ c. c .parse-closing .ensures)

@@ -5,29 +5,9 @@ use Rattle.parser.proofs.Laws.{then, stop, done, absent, present, broke
 use borrow.Author.Needs.{needs}
 use Rattle.parser.proofs.parse_type_part.Statement.{statement}
 use Rattle.parser.proofs.parse_type_part.Tie as tie
-use Rattle.parser.proofs.parse_type_part.Reads as reads
-use Rattle.parser.proofs.parse_type_part.Lts as lts
-use Rattle.parser.proofs.kind_or_end.Reads as kind-or-end-reads
-use Rattle.parser.proofs.next.Reads as next-reads
-use Rattle.parser.proofs.parse_type.Reads as parse-type-reads
-
-kind-or-end-requires : tie.Need-kind-or-end-requires
-kind-or-end-requires c κs = search needs
 
 returns : tie.Need-returns
 returns c = record { read = absent (is kColon) parseTypePart (c .before .before .before .pre) (rw (← c .before .kind-or-end .ensures) (ne-eqb _ _ (c .if1 .taken))); stands = tt }
-
-next-requires : tie.Need-next-requires
-next-requires c κs = search needs
-
-parse-type-requires : tie.Need-parse-type-requires
-parse-type-requires c κs = search needs
-
-enum-known-p : tie.Need-enum-known-p
-enum-known-p c = search needs
-
-enum-known-number : tie.Need-enum-known-number
-enum-known-number c = search needs
 
 returns-2 : tie.Need-returns-2
 returns-2 c = let w = rw (c .before .p .given .1) at (c .before .before .before .parse-type .ensures) in
@@ -42,12 +22,4 @@ returns-3 c = broken (is kColon) parseTypePart (c .before .before .before .befor
 pub parse-type-part-spec : {M : Type 1} → statement M
 parse-type-part-spec =
     tie.close
-    (tie.spec
-    kind-or-end-requires
-    returns
-    next-requires
-    parse-type-requires
-    enum-known-p
-    enum-known-number
-    returns-2
-    returns-3)
+    (tie.spec (λ c κs. search needs) returns (λ c κs. search needs) (λ c κs. search needs) (λ c. search needs) (λ c. search needs) returns-2 returns-3)

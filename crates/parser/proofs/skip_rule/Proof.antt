@@ -4,17 +4,6 @@ use Rattle.parser.proofs.Laws.{some-kind, skipped, not-skipped}
 use borrow.Author.Needs.{needs}
 use Rattle.parser.proofs.skip_rule.Statement.{statement}
 use Rattle.parser.proofs.skip_rule.Tie as tie
-use Rattle.parser.proofs.skip_rule.Reads as reads
-use Rattle.parser.proofs.skip_rule.Lts as lts
-use Rattle.parser.proofs.kind_or_end.Reads as kind-or-end-reads
-use Rattle.parser.proofs.kinds.is_rule.Reads as is-rule-reads
-use Rattle.parser.proofs.next.Reads as next-reads
-
-kind-or-end-requires : tie.Need-kind-or-end-requires
-kind-or-end-requires c κs = search needs
-
-is-rule-requires : tie.Need-is-rule-requires
-is-rule-requires c κs = search needs
 
 next-requires : tie.Need-next-requires
 next-requires c κs = (c .before .before .before .before .pre, rw (← c .before .before .kind-or-end .ensures) (some-kind isRule _ refl (sym (c .before .is-rule .ensures) ∙ c .if1 .taken)))
@@ -27,4 +16,4 @@ returns-2 c = not-skipped isRule (c .before .before .before .before .pre) (rw (�
 
 pub skip-rule-spec : {M : Type 1} → statement M
 skip-rule-spec =
-    tie.close (tie.spec kind-or-end-requires is-rule-requires next-requires returns returns-2)
+    tie.close (tie.spec (λ c κs. search needs) (λ c κs. search needs) next-requires returns returns-2)

@@ -1,9 +1,6 @@
 use mathlib.Core.Bool.{or-assoc}
-use borrow.Author.Needs.{needs}
 use Rattle.parser.proofs.kinds.is_plain.Statement.{statement}
 use Rattle.parser.proofs.kinds.is_plain.Tie as tie
-use Rattle.parser.proofs.kinds.is_plain.Reads as reads
-use Rattle.parser.proofs.kinds.is_plain.Lts as lts
 
 returns : tie.Need-returns
 returns c = simp or-assoc
