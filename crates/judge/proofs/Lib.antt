@@ -5,3 +5,5 @@ pub mod Walks
 pub mod Sorting
 pub mod Indices
 pub mod Imports
+pub mod Declarations
+pub mod Opening
