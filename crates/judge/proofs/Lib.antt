@@ -1,5 +1,7 @@
 -- The laws of judging.
+pub mod Ahead
 pub mod Errors
+pub mod Remains
 pub mod Fields
 pub mod Walks
 pub mod Sorting

@@ -24,7 +24,8 @@ use Rattle.parser.specs.declared.Cursor.{Cursor}
 use Rattle.parser.proofs.Laws.{some-kind}
 use Rattle.judge.specs.Judges.{Judges, Before, Room, importsOf, declarationsOf}
 use Rattle.judge.specs.declared.Judged.{Judged}
-use Rattle.judge.proofs.Errors.{errors-append, stands, room-left}
+use Rattle.judge.proofs.Ahead.{stands, room-left}
+use Rattle.judge.proofs.Errors.{errors-append}
 
 -- what follows the first token, where it is the schema's comment, and else all
 opening-rest : (u : Token) (us : List Token) (b : Bool) → isOpening (u ∷ us) ≡ b → parseOpening (u ∷ us) .rest ≡ elim b [ true ↦ us | false ↦ u ∷ us ]

@@ -34,7 +34,7 @@ pub record Room (t : Bytes) (c : Cursor) (items spare : List ℕ) : Type 0 where
   pub work : length (ahead t c) ≤ length spare
 
 -- a table that passed the check, and its last token's end
-pub record Checked (t : Bytes) (end : ℕ) (items spare : List ℕ) : Type 0 where
+pub record Judgeable (t : Bytes) (end : ℕ) (items spare : List ℕ) : Type 0 where
   pub room : Room t (record { at = 0 }) items spare
   pub last : end ≡ endOf 0 (tokensFrom t 0)
 
