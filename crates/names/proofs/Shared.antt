@@ -15,7 +15,8 @@ use Rattle.names.specs.Answer.{answerOf, bufferOf, withSteps, Answers, R
 use Rattle.names.specs.declared.Answer.{Answer}
 use Rattle.names.specs.declared.Relative.{Relative}
 use Rattle.names.specs.declared.Relative.the-variants as relative
-use Rattle.names.specs.Namespace.{nameAt, afterName, isNamespace, namesIn, namesOf, afterNames, common, commonOf, relativeOf, stepsUp, Parted}
+use Rattle.names.specs.Namespace.{afterName, isNamespace, namesIn, namesOf, afterNames, common, commonOf, relativeOf, stepsUp}
+use Rattle.names.specs.Place.{nameAt, Parted}
 use Rattle.names.proofs.Walk.{Holds, holds, holds-names, here, size, room, at-end, after-is}
 
 pub few : (n : ℕ) (bs : Bytes) → length (namesIn n bs) ≤ n

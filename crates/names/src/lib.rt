@@ -13,7 +13,8 @@ ghost use Rattle.identifier.specs.Name.{isName};
 ghost use Rattle.identifier.specs.Forms.{snakeOf, camelOf, pascalOf};
 ghost use Rattle.identifier.specs.Join.{joinOf};
 ghost use Rattle.identifier.specs.Survive.{survives};
-ghost use Rattle.names.specs.Namespace.{nameAt, endOf, isNamespace, namesOf, dotAt, textOf, relativeOf, stepsUp, Parted};
+ghost use Rattle.names.specs.Namespace.{isNamespace, namesOf, textOf, relativeOf, stepsUp};
+ghost use Rattle.names.specs.Place.{nameAt, endOf, dotAt, Parted};
 ghost use Rattle.names.specs.Answer.{Answers, withSteps, Relatives, comparedAs, comparedOf, samenessOf, isJoinable, survivalOf};
 
 pub enum Answer {
