@@ -15,10 +15,11 @@ use Rattle.token.specs.Payload.{isComment, isPath, isParagraph, areParagraphs, 
 use Rattle.token.specs.Table.{tokenOf, isWhole}
 use Rattle.identifier.specs.Order.{isBefore, nameOrder}
 use Rattle.identifier.specs.Forms.{snakeOf}
+use Rattle.identifier.specs.Name.{isName}
 use Rattle.identifier.specs.Byte.{lowerOf}
 use Rattle.schema.specs.Ast.{Range, TypeVariant, Rule, Field, Import, DeclarationVariant, Declaration, Schema}
 use Rattle.schema.specs.Encode.{encodeSchema, nowhere}
-use Rattle.schema.specs.Payload.{isName, isSized, isNamed, isImport, isCounted, isDeclaration, isField, indicesOf, isDeleted, isPlainType, isCustom, isTypePayload, isPayload}
+use Rattle.schema.specs.Payload.{isSized, isNamed, isImport, isCounted, isDeclaration, isField, indicesOf, isDeleted, isPlainType, isCustom, isTypePayload, isPayload}
 use Rattle.schema.specs.Table.{recordsOf, isFramed, mayFollow, isLater, rowAfter, isRight, isNext, isSchemaTable}
 use Rattle.schema.specs.Decode.{decodeSchema}
 

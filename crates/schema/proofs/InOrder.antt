@@ -19,7 +19,8 @@ use Rattle.schema.specs.Limits.{Each, RangeWithin, CommentWithin, Import
 use Rattle.schema.specs.Encode.{nowhere, declarationKind, declarationPayload, importPayload}
 use Rattle.schema.specs.Payload.{nameOf, isTypePayload, isPayload}
 use Rattle.schema.specs.Table.{mayFollow, isLater, rowAfter, isRight, isNext, areNext, outset}
-use Rattle.schema.proofs.Records.{both, Fits, AllFit}
+use Rattle.schema.proofs.Records.{both, AllFit}
+use Rattle.token.proofs.Encode.{Narrow}
 use Rattle.schema.proofs.Payloads.{Right, name-is, import-right, comment-right, declaration-right, field-right, deleted-right, plain-right, custom-right}
 use Rattle.schema.proofs.Written.{made, commentRecords, importRecords, typeRecords, fieldRecords, deletedRecords, declarationRecords, schemaRecords}
 
@@ -129,7 +130,7 @@ schema-next s w = go (s .comment) (w .comment) .are
         next refl (comment-right p ps v .right) refl (omega arith) (imports _ refl refl (record { struct = refl; choice = refl; end = refl }))
 
 -- the numbers of a record with a right payload
-fits : {rule : Bytes → Bool} {kind : ℕ} {r : Range} {p : Bytes} → kind < 65536 → RangeWithin r → Right rule p → Fits (made kind r p)
+fits : {rule : Bytes → Bool} {kind : ℕ} {r : Range} {p : Bytes} → kind < 65536 → RangeWithin r → Right rule p → Narrow (made kind r p)
 fits k r p = record { kind = k; start = r .start; end = r .end; size = p .short }
 
 nowhere-within : RangeWithin nowhere

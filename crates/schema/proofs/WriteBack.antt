@@ -22,14 +22,14 @@ use Rattle.schema.specs.Encode.{nowhere, indices}
 use Rattle.schema.specs.Payload.{nameOf, indicesOf, isTypePayload, isPayload}
 use Rattle.schema.specs.Table.{mayFollow, isOutside, isImporting, isInside, isType, isLater, rowAfter, isRight, isNext, areNext, outset}
 use Rattle.schema.specs.Decode.{rangeOf, openingOf, importOf, importsOf, typeOf, fieldsOf, deletedOf, declarationsOf, schemaOf, settled}
-use Rattle.schema.proofs.Records.{Fits}
+use Rattle.token.proofs.Encode.{Narrow}
 use Rattle.schema.proofs.Steps.{After, at-kind, never, either, NextIs, next-is}
 use Rattle.schema.proofs.PayloadsRead.{Some, import-read, declaration-read, field-read, deleted-read, comment-read, plain-read, custom-read}
 use Rattle.schema.proofs.Written.{made, commentRecords, importRecords, typeRecords, fieldRecords, deletedRecords, declarationRecords, schemaRecords}
 
 -- what a table's bytes show of each record
 pub record Read (r : Token) : Type 0 where
-  pub fits : Fits r
+  pub fits : Narrow r
   pub bytes : AllBytes (r .payload)
 
 range-within : {r : Token} → Read r → RangeWithin (rangeOf r)
@@ -227,7 +227,7 @@ pub record SchemaParts (rs : List Token) : Type 0 where
   pub within : Within (schemaOf rs)
 
 no-comment : CommentWithin []
-no-comment = record { few = omega arith; each = tt }
+no-comment = record { few = omega arith; each = refl }
 
 schema-step : (r : Token) (rs : List Token) → Parts rs → Read r → NextIs outset 0 r rs → SchemaParts (r ∷ rs)
 unfolding isPayload isTypePayload mayFollow pick
