@@ -1,15 +1,14 @@
 // Schema tables: the check of document 01 (R9), and the walk over a table that passed it.
 ghost use mathlib.Core.Path.{_≡_};
-ghost use mathlib.Core.Bool.{true, _||_};
+ghost use mathlib.Core.Bool.{true};
 ghost use Prim.Native.Nat.{_+_, _≤_, _<_};
-ghost use lib.Dec.{eqb};
 ghost use lib.ListN.{length};
 ghost use Rattle.identifier.specs.Byte.{classOf};
 ghost use Rattle.identifier.specs.Table.{table, Tables};
 ghost use Rattle.identifier.specs.Order.{isBefore};
 ghost use Rattle.token.specs.Kind.{isPlain};
 ghost use Rattle.schema.specs.Payload.{isSized, nameOf, afterName, isNamed, isImport, isCounted, isDeclaration, isField, isDeleted, isPlainType, isCustom, isTypePayload, isPayload};
-ghost use Rattle.schema.specs.Table.{isOutside, isImporting, isInside, isType, mayFollow, rowAfter, isRight, isLater, isSchemaTable};
+ghost use Rattle.schema.specs.Table.{isOutside, isImporting, isType, mayFollow, rowAfter, isRight, isLater, isSchemaTable};
 ghost use Rattle.schema.specs.Checked.{checked};
 ghost use Rattle.schema.specs.Walk.{kindAt, startAt, endAt, nextAt, payloadAt, WholeAt};
 use identifier::Order;
