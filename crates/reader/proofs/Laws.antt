@@ -1,0 +1,46 @@
+-- The reader's answers, from what the table decodes to, what its tokens parse to, and whether the answer fits.
+use Prim.Native.Nat.{ℕ, zero, suc, _+_, _*_, _≤_, _<_}
+use mathlib.Core.Path.{_≡_, refl, ap, sym, _∙_}
+use mathlib.Core.Bool.{true, false}
+use mathlib.Core.List.{List, [], _∷_, _++_}
+use native.Mathlib.Omega.{arith}
+use lib.Dec.{leb}
+use lib.ListN.{length, drop, length-append}
+use Rattle.wire.specs.Bytes.{Bytes}
+use Rattle.wire.specs.Pick.{pick}
+use Rattle.token.specs.Token.{Token}
+use Rattle.token.specs.Table.{refused, tokens, decode}
+use Rattle.schema.specs.Encode.{encodeSchema}
+use Rattle.grammar.specs.Error.{Error, errorBytes, errorsBytes}
+use Rattle.grammar.specs.Meaning.{schemaOf}
+use Rattle.grammar.specs.Reading.{parseSchema, parse, Outcome}
+use Rattle.grammar.specs.Answer.{readAnswer, answerOf, bytesOf, fitted}
+use Rattle.grammar.specs.Answer as reading
+use Rattle.grammar.proofs.Outcomes.{parse-schema, parse-errors, read-refused, read-tokens}
+use Rattle.reader.specs.Answers.{Answers, told}
+use Rattle.reader.specs.declared.Answer.the-variants.{Refused, Schema, Errors}
+
+pub turned-away : (t o : Bytes) {number offset : ℕ} → decode t ≡ refused number offset → Answers t o o (Refused number offset)
+turned-away t o d = let a = read-refused t (length o) d in record { answer = rw a; buffer = rw a }
+
+-- where the table decodes to tokens that parse to an outcome
+module _ (t o : Bytes) {ts : List Token} (d : decode t ≡ tokens ts) {out : Outcome} (p : parse ts ≡ out) where
+  fitted-is : readAnswer t (length o) ≡ fitted (length o) (answerOf out)
+  fitted-is = read-tokens t (length o) d ∙ rw p
+
+  pub too-long : leb (length (bytesOf (answerOf out))) (length o) ≡ false → Answers t o o (Refused 8 0)
+  unfolding fitted pick
+  too-long e = let a : readAnswer t (length o) ≡ reading.Answer.refusal 8 0 = fitted-is ∙ rw e in record { answer = rw a; buffer = rw a }
+
+  fits : leb (length (bytesOf (answerOf out))) (length o) ≡ true → readAnswer t (length o) ≡ answerOf out
+  unfolding fitted pick
+  fits e = fitted-is ∙ rw e
+
+module _ (t o : Bytes) {ts : List Token} (d : decode t ≡ tokens ts) where
+  pub schema-written : {o′ : Bytes} {r : ℕ} → parseSchema ts .errors ≡ [] → let bs = encodeSchema (schemaOf (parseSchema ts .value)) in
+      leb (length bs) (length o) ≡ true → (o′ ≡ bs ++ drop (length bs) o) × (r ≡ length bs) → Answers t o o′ (Schema r)
+  schema-written z e (b, n) = let a = fits t o d (parse-schema ts z) e in record { answer = rw (a, n); buffer = rw a b }
+
+  pub errors-written : {o′ : Bytes} {r : ℕ} {es : List Error} → parse ts ≡ Outcome.errors es →
+      leb (length (errorsBytes es)) (length o) ≡ true → (o′ ≡ errorsBytes es ++ drop (length (errorsBytes es)) o) × (r ≡ length (errorsBytes es)) → Answers t o o′ (Errors r)
+  errors-written p e (b, n) = let a = fits t o d p e in record { answer = rw (a, n); buffer = rw a b }

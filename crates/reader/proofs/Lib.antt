@@ -1,0 +1,2 @@
+-- The laws of the reader.
+pub mod Laws
