@@ -1,4 +1,13 @@
-// The names of schemas, after identifier.rs: byte tables, the forms of a name, the order of two names.
+// The names of schemas, after identifier.rs: the forms of a name and the order of two names.
+pub mod tables;
+
+use tables::class_table;
+use tables::is_break;
+use tables::is_upper;
+use tables::lower_in;
+use tables::lower_table;
+use tables::upper_in;
+use tables::upper_table;
 ghost use mathlib.Core.Path.{_≡_};
 ghost use mathlib.Core.Bool.{false, _||_, _&&_};
 ghost use Prim.Native.Nat.{_+_, _≤_, _<_};
@@ -6,151 +15,12 @@ ghost use lib.Dec.{eqb};
 ghost use lib.ListN.{length, getD, take};
 ghost use Rattle.wire.specs.Pick.{pick};
 ghost use Rattle.wire.specs.Put.{Wrote};
-ghost use Rattle.identifier.specs.Byte.{isPrintable, isBreak, isUpper, classOf, lowerOf, upperOf};
+ghost use Rattle.identifier.specs.Byte.{isBreak, isUpper, classOf, lowerOf, upperOf};
 ghost use Rattle.identifier.specs.Table.{table, Tables};
-ghost use Rattle.identifier.specs.Name.{isName};
 ghost use Rattle.identifier.specs.Left.{firstBy, laterBy, gives, codeOf, Follows};
 ghost use Rattle.identifier.specs.Words.{wordsOf};
 ghost use Rattle.identifier.specs.Forms.{joined, snakeOf, camelOf, pascalOf, IsForm};
 ghost use Rattle.identifier.specs.Order.{nameOrder, sameName};
-
-// 0 not printable, 1 the quote, 2 space, 3 any other printable byte, 4 `-`, 5 a digit, 6 `_`, 7 a small letter, 8 a capital
-const CLASS: [u8; 256] = *b"\
-    \x00\x00\x00\x00\x00\x00\x00\x00\x00\x00\x00\x00\x00\x00\x00\x00\
-    \x00\x00\x00\x00\x00\x00\x00\x00\x00\x00\x00\x00\x00\x00\x00\x00\
-    \x02\x03\x03\x03\x03\x03\x03\x01\x03\x03\x03\x03\x03\x04\x03\x03\
-    \x05\x05\x05\x05\x05\x05\x05\x05\x05\x05\x03\x03\x03\x03\x03\x03\
-    \x03\x08\x08\x08\x08\x08\x08\x08\x08\x08\x08\x08\x08\x08\x08\x08\
-    \x08\x08\x08\x08\x08\x08\x08\x08\x08\x08\x08\x03\x03\x03\x03\x06\
-    \x03\x07\x07\x07\x07\x07\x07\x07\x07\x07\x07\x07\x07\x07\x07\x07\
-    \x07\x07\x07\x07\x07\x07\x07\x07\x07\x07\x07\x03\x03\x03\x03\x00\
-    \x00\x00\x00\x00\x00\x00\x00\x00\x00\x00\x00\x00\x00\x00\x00\x00\
-    \x00\x00\x00\x00\x00\x00\x00\x00\x00\x00\x00\x00\x00\x00\x00\x00\
-    \x00\x00\x00\x00\x00\x00\x00\x00\x00\x00\x00\x00\x00\x00\x00\x00\
-    \x00\x00\x00\x00\x00\x00\x00\x00\x00\x00\x00\x00\x00\x00\x00\x00\
-    \x00\x00\x00\x00\x00\x00\x00\x00\x00\x00\x00\x00\x00\x00\x00\x00\
-    \x00\x00\x00\x00\x00\x00\x00\x00\x00\x00\x00\x00\x00\x00\x00\x00\
-    \x00\x00\x00\x00\x00\x00\x00\x00\x00\x00\x00\x00\x00\x00\x00\x00\
-    \x00\x00\x00\x00\x00\x00\x00\x00\x00\x00\x00\x00\x00\x00\x00\x00";
-
-const LOWER: [u8; 256] = *b"\
-    \x00\x01\x02\x03\x04\x05\x06\x07\x08\x09\x0a\x0b\x0c\x0d\x0e\x0f\
-    \x10\x11\x12\x13\x14\x15\x16\x17\x18\x19\x1a\x1b\x1c\x1d\x1e\x1f\
-    \x20!\"#$%&'()*+,-./\
-    0123456789:;<=>?\
-    @abcdefghijklmno\
-    pqrstuvwxyz[\\]^_\
-    `abcdefghijklmno\
-    pqrstuvwxyz{|}~\x7f\
-    \x80\x81\x82\x83\x84\x85\x86\x87\x88\x89\x8a\x8b\x8c\x8d\x8e\x8f\
-    \x90\x91\x92\x93\x94\x95\x96\x97\x98\x99\x9a\x9b\x9c\x9d\x9e\x9f\
-    \xa0\xa1\xa2\xa3\xa4\xa5\xa6\xa7\xa8\xa9\xaa\xab\xac\xad\xae\xaf\
-    \xb0\xb1\xb2\xb3\xb4\xb5\xb6\xb7\xb8\xb9\xba\xbb\xbc\xbd\xbe\xbf\
-    \xc0\xc1\xc2\xc3\xc4\xc5\xc6\xc7\xc8\xc9\xca\xcb\xcc\xcd\xce\xcf\
-    \xd0\xd1\xd2\xd3\xd4\xd5\xd6\xd7\xd8\xd9\xda\xdb\xdc\xdd\xde\xdf\
-    \xe0\xe1\xe2\xe3\xe4\xe5\xe6\xe7\xe8\xe9\xea\xeb\xec\xed\xee\xef\
-    \xf0\xf1\xf2\xf3\xf4\xf5\xf6\xf7\xf8\xf9\xfa\xfb\xfc\xfd\xfe\xff";
-
-const UPPER: [u8; 256] = *b"\
-    \x00\x01\x02\x03\x04\x05\x06\x07\x08\x09\x0a\x0b\x0c\x0d\x0e\x0f\
-    \x10\x11\x12\x13\x14\x15\x16\x17\x18\x19\x1a\x1b\x1c\x1d\x1e\x1f\
-    \x20!\"#$%&'()*+,-./\
-    0123456789:;<=>?\
-    @ABCDEFGHIJKLMNO\
-    PQRSTUVWXYZ[\\]^_\
-    `ABCDEFGHIJKLMNO\
-    PQRSTUVWXYZ{|}~\x7f\
-    \x80\x81\x82\x83\x84\x85\x86\x87\x88\x89\x8a\x8b\x8c\x8d\x8e\x8f\
-    \x90\x91\x92\x93\x94\x95\x96\x97\x98\x99\x9a\x9b\x9c\x9d\x9e\x9f\
-    \xa0\xa1\xa2\xa3\xa4\xa5\xa6\xa7\xa8\xa9\xaa\xab\xac\xad\xae\xaf\
-    \xb0\xb1\xb2\xb3\xb4\xb5\xb6\xb7\xb8\xb9\xba\xbb\xbc\xbd\xbe\xbf\
-    \xc0\xc1\xc2\xc3\xc4\xc5\xc6\xc7\xc8\xc9\xca\xcb\xcc\xcd\xce\xcf\
-    \xd0\xd1\xd2\xd3\xd4\xd5\xd6\xd7\xd8\xd9\xda\xdb\xdc\xdd\xde\xdf\
-    \xe0\xe1\xe2\xe3\xe4\xe5\xe6\xe7\xe8\xe9\xea\xeb\xec\xed\xee\xef\
-    \xf0\xf1\xf2\xf3\xf4\xf5\xf6\xf7\xf8\xf9\xfa\xfb\xfc\xfd\xfe\xff";
-
-pub fn class_table() -> [u8; 256]
-    ensures { λ r. ⌜ r ≡ table classOf ⌝ }
-{
-    CLASS
-}
-
-pub fn lower_table() -> [u8; 256]
-    ensures { λ r. ⌜ r ≡ table lowerOf ⌝ }
-{
-    LOWER
-}
-
-pub fn upper_table() -> [u8; 256]
-    ensures { λ r. ⌜ r ≡ table upperOf ⌝ }
-{
-    UPPER
-}
-
-pub fn class_in(class: &[u8; 256], b: u8) -> u8
-    requires { ⌜ now class ≡ table classOf ⌝ }
-    ensures { λ r. ⌜ r ≡ classOf b ⌝ }
-{
-    class[b as usize]
-}
-
-fn lower_in(lower: &[u8; 256], b: u8) -> u8
-    requires { ⌜ now lower ≡ table lowerOf ⌝ }
-    ensures { λ r. ⌜ r ≡ lowerOf b ⌝ }
-{
-    lower[b as usize]
-}
-
-fn upper_in(upper: &[u8; 256], b: u8) -> u8
-    requires { ⌜ now upper ≡ table upperOf ⌝ }
-    ensures { λ r. ⌜ r ≡ upperOf b ⌝ }
-{
-    upper[b as usize]
-}
-
-fn is_printable(class: &[u8; 256], b: u8) -> bool
-    requires { ⌜ now class ≡ table classOf ⌝ }
-    ensures { λ r. ⌜ r ≡ isPrintable b ⌝ }
-{
-    0 < class_in(class, b)
-}
-
-fn is_break(class: &[u8; 256], b: u8) -> bool
-    requires { ⌜ now class ≡ table classOf ⌝ }
-    ensures { λ r. ⌜ r ≡ isBreak b ⌝ }
-{
-    let k = class_in(class, b);
-    (k == 4) | (k == 6)
-}
-
-fn is_upper(class: &[u8; 256], b: u8) -> bool
-    requires { ⌜ now class ≡ table classOf ⌝ }
-    ensures { λ r. ⌜ r ≡ isUpper b ⌝ }
-{
-    class_in(class, b) == 8
-}
-
-// Whether these are 1 to 128 printable bytes.
-pub fn is_name(class: &[u8; 256], name: &[u8]) -> bool
-    requires { ⌜ now class ≡ table classOf ⌝ }
-    ensures { λ r. ⌜ r ≡ isName (now (name .entry)) ⌝ }
-{
-    if name.len() < 1 {
-        return false;
-    }
-    if 128 < name.len() {
-        return false;
-    }
-    let mut i: usize = 0;
-    while i < name.len() {
-        if is_printable(class, name[i]) {
-            i += 1;
-        } else {
-            return false;
-        }
-    }
-    true
-}
 
 // The next byte of a form, unless it ends; `at` and `state` are where the rest of it begins.
 struct Next {
