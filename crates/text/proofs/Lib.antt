@@ -5,4 +5,4 @@ pub mod Places
 pub mod Comment
 pub mod Cases
 pub mod Parts
-pub mod Types
+pub mod Indices

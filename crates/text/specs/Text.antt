@@ -117,7 +117,7 @@ indexText n = bytes " " ++ decimal n
 -- nothing where no index is deleted; a blank line parts it from the fields, where there are any
 unfoldable pub deletedText : Bool → List ℕ → Bytes
 deletedText afterFields indices =
-    pick (isEmpty indices) [] (blank afterFields ++ four ++ bytes "deleted" ++ flatMap indexText indices ++ newline)
+    pick (isEmpty indices) [] (blank afterFields ++ bytes "    deleted" ++ flatMap indexText indices ++ newline)
 
 abbrev pub variantText : DeclarationVariant → Bytes
 variantText struct = bytes "struct "

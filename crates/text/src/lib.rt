@@ -1,53 +1,18 @@
 // The canonical text of a schema, as schema.rs writes it.
 use identifier::Order;
 ghost use mathlib.Core.Path.{_≡_};
-ghost use mathlib.Core.Bool.{true, false, not, _&&_};
+ghost use mathlib.Core.Bool.{true};
 ghost use mathlib.Core.List.{flatMap};
-ghost use Prim.Native.Nat.{_+_, _*_, _≤_};
-ghost use lib.Dec.{eqb};
-ghost use lib.ListN.{length, getD, drop};
+ghost use Prim.Native.Nat.{_≤_, _%_};
+ghost use lib.ListN.{length};
 ghost use Rattle.wire.specs.Put.{Wrote};
-ghost use Rattle.wire.specs.Le.{u16At};
-ghost use Rattle.token.specs.Kind.{kUnit};
 ghost use Rattle.token.specs.Payload.{areParagraphs, paragraphsOf};
-ghost use Rattle.schema.specs.Kind.{sArray, sPlain};
-ghost use Rattle.schema.specs.Payload.{isImport, isDeclaration, isField, isDeleted, isPayload, nameOf, afterName, indicesOf};
-ghost use Rattle.schema.specs.Table.{isType};
-ghost use Rattle.schema.specs.Decode.{optional, ruleOf, variantOf, commentOf, typeOf};
+ghost use Rattle.schema.specs.Payload.{isDeclaration, isDeleted, nameOf, afterName, indicesOf};
+ghost use Rattle.schema.specs.Decode.{optional, ruleOf, variantOf, commentOf};
 ghost use Rattle.text.specs.Wrap.{wordEnd};
-ghost use Rattle.text.specs.Text.{blank, lineText, paragraphText, mark, commentText, isEmpty, isInferred, importText, plainText, customText, typeText, ruleText, fieldName, fieldType, fieldIndex, indexText, deletedText, variantText, headText};
-ghost use Rattle.schema.specs.Walk.{kindAt, nextAt, payloadAt, Stands};
-ghost use Rattle.text.specs.Types.{typeAt, depthAt, baseText};
+ghost use Rattle.text.specs.Text.{blank, lineText, paragraphText, mark, commentText, isInferred, importText, plainText, customText, ruleText, fieldName, fieldIndex, indexText, deletedText, variantText, headText};
 
 const MAX_COLUMNS: usize = 79;
-
-const COMMENT: u16 = 101;
-
-const IMPORT: u16 = 102;
-
-const STRUCT: u16 = 103;
-
-const FIELD: u16 = 105;
-
-const DELETED: u16 = 106;
-
-const ARRAY: u16 = 107;
-
-const PLAIN: u16 = 108;
-
-const BOOL: u16 = 3;
-
-const BYTES: u16 = 4;
-
-const F64: u16 = 11;
-
-const S64: u16 = 21;
-
-const STRING: u16 = 22;
-
-const U64: u16 = 24;
-
-const UNIT: u16 = 25;
 
 // The end of the word that begins at i: the next space, or the end.
 fn word_end(s: &[u8], i: usize) -> usize
@@ -105,7 +70,7 @@ fn put_mark(out: &mut [u8], at: usize, indentation: &[u8], later: bool) -> usize
 }
 
 // A comment, from its paragraphs as a table has them.
-fn put_comment(out: &mut [u8], at: usize, indentation: &[u8], ps: &[u8]) -> usize
+pub fn put_comment(out: &mut [u8], at: usize, indentation: &[u8], ps: &[u8]) -> usize
     requires { ⌜ (length (now indentation) ≤ 77) × (areParagraphs 32 (now ps) ≡ true) ⌝ }
     ensures { λ r. ⌜ Wrote (now (out .entry)) at (commentText (now (indentation .entry)) (paragraphsOf (now (ps .entry)))) (now (out .exit)) r ⌝ }
 {
@@ -121,7 +86,7 @@ fn put_comment(out: &mut [u8], at: usize, indentation: &[u8], ps: &[u8]) -> usiz
     a
 }
 
-fn put_blank(out: &mut [u8], at: usize, b: bool) -> usize
+pub fn put_blank(out: &mut [u8], at: usize, b: bool) -> usize
     ensures { λ r. ⌜ Wrote (now (out .entry)) at (blank b) (now (out .exit)) r ⌝ }
 {
     if b {
@@ -144,7 +109,7 @@ fn is_inferred(name: &[u8], path: &[u8]) -> bool
     }
 }
 
-fn put_import(out: &mut [u8], at: usize, name: &[u8], path: &[u8]) -> usize
+pub fn put_import(out: &mut [u8], at: usize, name: &[u8], path: &[u8]) -> usize
     requires { ⌜ length (now name) ≤ 128 ⌝ }
     ensures { λ r. ⌜ Wrote (now (out .entry)) at (importText (now (name .entry)) (now (path .entry))) (now (out .exit)) r ⌝ }
 {
@@ -158,32 +123,32 @@ fn put_import(out: &mut [u8], at: usize, name: &[u8], path: &[u8]) -> usize
     wire::put_byte(out, d, b'\n')
 }
 
-fn put_plain(out: &mut [u8], at: usize, kind: u16) -> usize
+pub fn put_plain(out: &mut [u8], at: usize, kind: u16) -> usize
     ensures { λ r. ⌜ Wrote (now (out .entry)) at (plainText kind) (now (out .exit)) r ⌝ }
 {
-    if kind == BOOL {
+    if kind == token::kind::BOOL {
         return wire::put_slice(out, at, b"Bool");
     }
-    if kind == BYTES {
+    if kind == token::kind::BYTES {
         return wire::put_slice(out, at, b"Bytes");
     }
-    if kind == F64 {
+    if kind == token::kind::F64 {
         return wire::put_slice(out, at, b"F64");
     }
-    if kind == S64 {
+    if kind == token::kind::S64 {
         return wire::put_slice(out, at, b"S64");
     }
-    if kind == STRING {
+    if kind == token::kind::STRING {
         return wire::put_slice(out, at, b"String");
     }
-    if kind == U64 {
+    if kind == token::kind::U64 {
         return wire::put_slice(out, at, b"U64");
     }
     wire::put_slice(out, at, b"Unit")
 }
 
 // A custom type, whose import's name is empty where it has none.
-fn put_custom(out: &mut [u8], at: usize, import: &[u8], name: &[u8]) -> usize
+pub fn put_custom(out: &mut [u8], at: usize, import: &[u8], name: &[u8]) -> usize
     requires { ⌜ (length (now import) ≤ 128) × (length (now name) ≤ 128) ⌝ }
     ensures { λ r. ⌜ Wrote (now (out .entry)) at (customText (optional (now (import .entry))) (now (name .entry))) (now (out .exit)) r ⌝ }
 {
@@ -207,63 +172,67 @@ fn put_rule(out: &mut [u8], at: usize, rule: u8) -> usize
     wire::put_slice(out, at, b"optional ")
 }
 
-fn kind_at(t: &[u8], at: usize) -> u16
-    requires { ⌜ at + 4 ≤ length (now t) ⌝ }
-    ensures { λ r. ⌜ r ≡ kindAt (now (t .entry)) at ⌝ }
+// A field's comment, rule and name; q holds the name and the comment.
+pub fn put_field_name(out: &mut [u8], at: usize, rule: u8, q: &[u8]) -> usize
+    requires { ⌜ isDeclaration (now q) ≡ true ⌝ }
+    ensures { λ r. ⌜ Wrote (now (out .entry)) at (fieldName (commentOf (afterName (now (q .entry)))) (ruleOf rule) (nameOf (now (q .entry)))) (now (out .exit)) r ⌝ }
 {
-    wire::u16_at(t, at + 2)
+    let rest = schema::after_name(q);
+    let a = put_comment(out, at, b"    ", &rest[2..]);
+    let b = wire::put_slice(out, a, b"    ");
+    let c = put_rule(out, b, rule);
+    identifier::put_snake(out, c, schema::name_of(q))
 }
 
-// The place after the record at a place.
-fn next_at(t: &[u8], at: usize) -> usize
-    requires { ⌜ (at + 2 ≤ length (now t)) × (nextAt (now t) at ≤ length (now t)) ⌝ }
-    ensures { λ r. ⌜ r ≡ nextAt (now (t .entry)) at ⌝ }
+pub fn put_field_index(out: &mut [u8], at: usize, index: u64) -> usize
+    ensures { λ r. ⌜ Wrote (now (out .entry)) at (fieldIndex index) (now (out .exit)) r ⌝ }
 {
-    at + (wire::u16_at(t, at) as usize)
+    let a = wire::put_slice(out, at, b" = ");
+    let b = wire::put_decimal(out, a, index);
+    wire::put_byte(out, b, b'\n')
 }
 
-// The place of the type inside all arrays of a type.
-fn innermost(t: &[u8], from: usize) -> usize
-    requires { ⌜ Stands (now t) from isType ⌝ }
-    ensures { λ r. ⌜ r ≡ from + 12 * depthAt (now (t .entry)) from ⌝ }
+fn put_indices(out: &mut [u8], at: usize, p: &[u8]) -> usize
+    requires { ⌜ length (now p) % 8 ≡ 0 ⌝ }
+    ensures { λ r. ⌜ Wrote (now (out .entry)) at (flatMap indexText (indicesOf (now (p .entry)))) (now (out .exit)) r ⌝ }
 {
-    let mut at = from;
-    while kind_at(t, at) == ARRAY {
-        at += 12;
+    let mut a = at;
+    let mut i: usize = 0;
+    while i < p.len() {
+        let b = wire::put_byte(out, a, b' ');
+        a = wire::put_decimal(out, b, wire::u64_at(p, i));
+        i += 8;
     }
-    at
+    a
 }
 
-// A plain type or a custom one.
-fn put_base(out: &mut [u8], at: usize, kind: u16, p: &[u8]) -> usize
-    requires { ⌜ (isType kind ≡ true) × (eqb kind sArray ≡ false) × (isPayload kind (now p) ≡ true) ⌝ }
-    ensures { λ r. ⌜ Wrote (now (out .entry)) at (baseText kind (now (p .entry))) (now (out .exit)) r ⌝ }
+pub fn put_deleted(out: &mut [u8], at: usize, fields: bool, p: &[u8]) -> usize
+    requires { ⌜ isDeleted (now p) ≡ true ⌝ }
+    ensures { λ r. ⌜ Wrote (now (out .entry)) at (deletedText fields (indicesOf (now (p .entry)))) (now (out .exit)) r ⌝ }
 {
-    if kind == PLAIN {
-        return put_plain(out, at, wire::u16_at(p, 0));
+    let a = put_blank(out, at, fields);
+    let b = wire::put_slice(out, a, b"    deleted");
+    let c = put_indices(out, b, p);
+    wire::put_byte(out, c, b'\n')
+}
+
+fn put_keyword(out: &mut [u8], at: usize, kind: u16) -> usize
+    ensures { λ r. ⌜ Wrote (now (out .entry)) at (variantText (variantOf kind)) (now (out .exit)) r ⌝ }
+{
+    if kind == schema::kind::STRUCT {
+        return wire::put_slice(out, at, b"struct ");
     }
-    let end = 2 + (wire::u16_at(p, 0) as usize);
-    put_custom(out, at, &p[2..end], &p[end..])
+    wire::put_slice(out, at, b"choice ")
 }
 
-// Type and TypeVariant write each other; `left` is the number of arrays still inside.
-fn put_type(out: &mut [u8], at: usize, t: &[u8], from: usize, left: usize) -> usize
-    requires { ⌜ Stands (now t) from isType × (left ≡ depthAt (now t) from) ⌝ }
-    ensures { λ r. ⌜ Wrote (now (out .entry)) at (typeText (typeAt (now (t .entry)) from)) (now (out .exit)) r ⌝ }
+// A declaration up to its fields; q holds the name and the comment.
+pub fn put_head(out: &mut [u8], at: usize, kind: u16, q: &[u8]) -> usize
+    requires { ⌜ isDeclaration (now q) ≡ true ⌝ }
+    ensures { λ r. ⌜ Wrote (now (out .entry)) at (headText (commentOf (afterName (now (q .entry)))) (variantOf kind) (nameOf (now (q .entry)))) (now (out .exit)) r ⌝ }
 {
-    put_variant(out, at, t, from, left)
-}
-
-fn put_variant(out: &mut [u8], at: usize, t: &[u8], from: usize, left: usize) -> usize
-    requires { ⌜ Stands (now t) from isType × (left ≡ depthAt (now t) from) ⌝ }
-    ensures { λ r. ⌜ Wrote (now (out .entry)) at (typeText (typeAt (now (t .entry)) from)) (now (out .exit)) r ⌝ }
-{
-    let kind = kind_at(t, from);
-    if kind == ARRAY {
-        let a = wire::put_byte(out, at, b'[');
-        let b = put_type(out, a, t, from + 12, left - 1);
-        return wire::put_byte(out, b, b']');
-    }
-    let next = next_at(t, from);
-    put_base(out, at, kind, &t[from + 12..next])
+    let rest = schema::after_name(q);
+    let a = put_comment(out, at, b"", &rest[2..]);
+    let b = put_keyword(out, a, kind);
+    let c = identifier::put_pascal(out, b, schema::name_of(q));
+    wire::put_slice(out, c, b" {\n")
 }

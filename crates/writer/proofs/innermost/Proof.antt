@@ -1,15 +1,12 @@
--- `text::innermost` meets its contract.
+-- `writer::innermost` meets its contract.
 use borrow.Author.Needs.{needs}
 use native.Mathlib.Omega.{arith}
 use mathlib.Core.Path.{sym, _∙_}
-use Prim.Native.Nat.{_+_, _*_, _-_}
+use Prim.Native.Nat.{_-_}
 use lib.ListN.{length}
-use Rattle.schema.specs.Table.{isType}
-use Rattle.schema.specs.Walk.{Stands}
-use Rattle.text.specs.Types.{depthAt}
-use Rattle.text.proofs.Types.{Deeper, deeper-begin, deeper-more, deeper-done, type-record}
-use Rattle.text.proofs.innermost.Statement.{statement}
-use Rattle.text.proofs.innermost.Tie as tie
+use Rattle.writer.proofs.Types.{Deeper, deeper-begin, deeper-more, deeper-done, type-record}
+use Rattle.writer.proofs.innermost.Statement.{statement}
+use Rattle.writer.proofs.innermost.Tie as tie
 
 abbrev Inv-loop : tie.InvT-loop
 Inv-loop t from at₀ at = Deeper t from at

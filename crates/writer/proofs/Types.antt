@@ -4,24 +4,56 @@ use mathlib.Core.Path.{_≡_, refl, sym, ap, _∙_}
 use mathlib.Core.Bool.{Bool, true, false, not, _&&_, _||_}
 use mathlib.Core.List.{List, [], _∷_}
 use native.Mathlib.Omega.{arith, not-le}
-use borrow.Author.Tests.{eq-eqb, ne-eqb, eqb-true}
+use borrow.Author.Tests.{eq-eqb, ne-eqb, eqb-true, eqb-false}
 use lib.Dec.{eqb}
 use lib.ListN.{length, take, drop, length-take, length-drop}
 use Rattle.wire.specs.Bytes.{Bytes}
 use Rattle.wire.specs.Le.{u16At}
 use Rattle.wire.specs.Pick.{pick}
+use Rattle.token.specs.Kind.{kUnit}
 use Rattle.token.specs.Token.{Token}
 use Rattle.token.specs.Table.{tokenOf}
 use Rattle.schema.specs.Ast.{TypeVariant, array, plain, custom}
 use Rattle.schema.specs.Kind.{sArray, sPlain, sCustom}
 use Rattle.schema.specs.Limits.{nesting}
-use Rattle.schema.specs.Payload.{isPayload, nameOf, afterName}
+use Rattle.schema.specs.Payload.{isName, isSized, isPlainType, isCustom, isTypePayload, isPayload, nameOf, afterName}
 use Rattle.schema.specs.Table.{isType, mayFollow}
+use Rattle.token.specs.Payload.{paragraphOf}
+use Rattle.schema.proofs.Records.{both}
+use Rattle.schema.proofs.Payloads.{name-short}
 use Rattle.schema.specs.Decode.{rangeOf, typeOf, optional}
-use Rattle.text.specs.Text.{typeText, plainText, customText}
+use Rattle.text.specs.Text.{typeText, isUnit}
 use Rattle.schema.specs.Walk.{recordsFrom, kindAt, nextAt, payloadAt, Stands}
 use Rattle.schema.proofs.Walk.{Record, record-at, end-may}
-use Rattle.text.specs.Types.{typeAt, depthAt, baseText}
+use Rattle.writer.specs.Parts.{typeAt, depthAt, baseText}
+
+-- a plain type's payload is a number
+pub plain-room : {k : ℕ} (p : Bytes) → k ≡ sPlain → isPayload k p ≡ true → length p ≡ 2
+unfolding isPayload isTypePayload isPlainType pick
+plain-room p e h = eqb-true (length p) 2 (both (eqb (length p) 2) _ (rw e at h) .0)
+
+-- a custom type's is its import's name and its own
+pub record CustomParts (p : Bytes) : Type 0 where
+  pub sized : isSized p ≡ true
+  pub import : length (nameOf p) ≤ 128
+  pub name : length (afterName p) ≤ 128
+
+custom-parts : (p : Bytes) → isCustom p ≡ true → CustomParts p
+unfolding isCustom paragraphOf
+custom-parts p e =
+    let f = both (isSized p) _ e in
+    let g = both (eqb (u16At p 0) 0 || isName (nameOf p)) _ (f .1) in
+    record { sized = f .0; import = short (eqb (u16At p 0) 0) refl (g .0); name = name-short (afterName p) (g .1) .high }
+  where
+    short : (b : Bool) → eqb (u16At p 0) 0 ≡ b → (b || isName (nameOf p)) ≡ true → length (nameOf p) ≤ 128
+    short true q h = omega (arith, length-take (u16At p 0) (drop 2 p), eqb-true (u16At p 0) 0 q)
+    short false q h = name-short (nameOf p) h .high
+
+pub custom-type : {k : ℕ} {p : Bytes} → isType k ≡ true → eqb k sArray ≡ false → (k ≡ sPlain → ⊥) → isPayload k p ≡ true → CustomParts p
+unfolding isPayload isTypePayload pick
+custom-type {k} {p} a b c h =
+    let e : k ≡ sCustom = eqb-true k sCustom (rw (b, ne-eqb k sPlain c) at a) in
+    custom-parts p (rw e at h)
 
 -- where a kind must stand, the table goes on
 pub goes-on : {t : Bytes} {at : ℕ} {may : ℕ → Bool} → Stands t at may → may 0 ≡ false → at < length t
@@ -32,11 +64,12 @@ module _ {t : Bytes} {at : ℕ} (s : Stands t at isType) where
   type-record = record-at s (goes-on s refl)
 
 pub record ArrayAt (t : Bytes) (at : ℕ) : Type 0 where
+  pub next : nextAt t at ≡ at + 12
   pub inner : Stands t (at + 12) isType
   pub type : typeAt t at ≡ array (rangeOf (tokenOf (drop at t))) (typeAt t (at + 12))
 
 pub array-at : {t : Bytes} {at : ℕ} → Stands t at isType → kindAt t at ≡ sArray → ArrayAt t at
-unfolding isPayload mayFollow pick
+unfolding isPayload isTypePayload mayFollow pick
 array-at {t} {at} s e =
     let r = type-record s in
     let low = r .head in
@@ -44,6 +77,7 @@ array-at {t} {at} s e =
     let p : length (payloadAt t at) ≡ 0 = eqb-true (length (payloadAt t at)) 0 (rw e at (r .right)) in
     let n : nextAt t at ≡ at + 12 = omega (arith, length-take (nextAt t at - (at + 12)) (drop (at + 12) t), length-drop (at + 12) t) in
     record {
+      next = n;
       inner = rw n at (r .next isType (λ k. rw e));
       type = rw (r .records, eq-eqb _ _ (r .kind ∙ e), typeOf, n);
     }
@@ -61,6 +95,7 @@ type-custom r rs f g = rw (f, typeOf, g)
 pub record BaseAt (t : Bytes) (at : ℕ) : Type 0 where
   pub depth : depthAt t at ≡ 0
   pub text : typeText (typeAt t at) ≡ baseText (kindAt t at) (payloadAt t at)
+  pub unit : isUnit (typeAt t at) ≡ (eqb (kindAt t at) sPlain && eqb (u16At (payloadAt t at) 0) kUnit)
 
 module _ {t : Bytes} {at : ℕ} (s : Stands t at isType) (e : kindAt t at ≡ sArray → ⊥) where
   no-array : eqb (tokenOf (drop at t) .kind) sArray ≡ false
@@ -71,14 +106,14 @@ module _ {t : Bytes} {at : ℕ} (s : Stands t at isType) (e : kindAt t at ≡ sA
   base-plain q =
       let r = type-record s in
       let y = ap typeOf (r .records) ∙ type-plain (tokenOf (drop at t)) (recordsFrom t (nextAt t at)) no-array (rw (r .kind) q) in
-      record { depth = ap nesting y; text = ap typeText y ∙ rw (r .payload, q) }
+      record { depth = ap nesting y; text = ap typeText y ∙ rw (r .payload, q); unit = ap isUnit y ∙ rw (r .payload, q) }
 
   base-custom : eqb (kindAt t at) sPlain ≡ false → BaseAt t at
   unfolding baseText pick
   base-custom q =
       let r = type-record s in
       let y = ap typeOf (r .records) ∙ type-custom (tokenOf (drop at t)) (recordsFrom t (nextAt t at)) no-array (rw (r .kind) q) in
-      record { depth = ap nesting y; text = ap typeText y ∙ rw (r .payload, q) }
+      record { depth = ap nesting y; text = ap typeText y ∙ rw (r .payload, q); unit = ap isUnit y ∙ rw q }
 
   pub base-at : BaseAt t at
   base-at = go (eqb (kindAt t at) sPlain) refl
@@ -86,6 +121,15 @@ module _ {t : Bytes} {at : ℕ} (s : Stands t at isType) (e : kindAt t at ≡ sA
       go : (b : Bool) → eqb (kindAt t at) sPlain ≡ b → BaseAt t at
       go true q = base-plain q
       go false q = base-custom q
+
+pub unit-at : {t : Bytes} {at : ℕ} → Stands t at isType → isUnit (typeAt t at) ≡ (eqb (kindAt t at) sPlain && eqb (u16At (payloadAt t at) 0) kUnit)
+unit-at {t} {at} s = go (eqb (kindAt t at) sArray) refl
+  where
+    go : (b : Bool) → eqb (kindAt t at) sArray ≡ b → isUnit (typeAt t at) ≡ (eqb (kindAt t at) sPlain && eqb (u16At (payloadAt t at) 0) kUnit)
+    go true q =
+        let e : kindAt t at ≡ sArray = eqb-true _ _ q in
+        ap isUnit (array-at s e .type) ∙ rw e
+    go false q = base-at s (eqb-false _ _ q) .unit
 
 -- the search for the type inside all arrays
 pub record Deeper (t : Bytes) (from at : ℕ) : Type 0 where

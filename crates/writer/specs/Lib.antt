@@ -1,0 +1,3 @@
+-- The definition of writing a schema table's text.
+pub mod Parts
+pub mod Steps
