@@ -17,7 +17,8 @@ use Rattle.schema.specs.Limits.{Each, CommentWithin, ImportWithin, TypeW
 use Rattle.schema.specs.Encode.{nowhere, counted, declarationKind, declarationPayload, fieldPayload, importPayload}
 use Rattle.schema.specs.Payload.{nameOf, afterName, indicesOf}
 use Rattle.schema.specs.Decode.{rangeOf, openingOf, commentOf, importOf, importsOf, optional, typeOf, ruleOf, fieldOf, fieldsOf, deletedOf, variantOf, declarationOf, declarationsOf, schemaOf}
-use Rattle.schema.proofs.Parts.{IsIndex, indices-written, paragraphs-written}
+use Rattle.schema.proofs.Parts.{IsIndex, indices-written}
+use Rattle.token.proofs.Paragraphs.{paragraphs-found}
 use Rattle.schema.proofs.Payloads.{name-is, after-is, comment-is, body-is, index-is, rule-is, plain-is, import-part, custom-name}
 use Rattle.schema.proofs.Written.{made, commentRecords, importRecords, typeRecords, fieldRecords, deletedRecords, declarationRecords, schemaRecords}
 
@@ -161,7 +162,7 @@ module _ (is : List Import) (ds : List Declaration) where
       go : (is : List Import) → openingOf (importRecords is (declarationRecords ds)) ≡ []
       go [] = stop openingOf (λ r p rs. (refl, refl, refl)) ds
       go (i ∷ is) = refl
-  opening-is (p ∷ ps) w = unfold paragraphsOf in paragraphs-written 32 (p ∷ ps) (w .few) (w .each) .read
+  opening-is (p ∷ ps) w = unfold paragraphsOf in paragraphs-found 32 (p ∷ ps) (w .few) (w .each) .1
 
   imports-past : (ps : List Bytes) (rs : List Token) → importsOf (commentRecords ps rs) ≡ importsOf rs
   imports-past [] rs = refl

@@ -7,15 +7,11 @@ use lib.ListN.{length, getD, drop}
 use Rattle.wire.specs.Bytes.{Bytes}
 use Rattle.wire.specs.Le.{u16At, u64At}
 use Rattle.wire.specs.Pick.{pick}
-use Rattle.identifier.specs.Byte.{within, isPrintable}
+use Rattle.identifier.specs.Name.{isName}
 use Rattle.token.specs.Kind.{isPlain}
-use Rattle.token.specs.Payload.{all, isPath, isComment, areParagraphs, paragraphOf, afterParagraph, paragraphsOf}
+use Rattle.token.specs.Payload.{isPath, isComment, areParagraphs, paragraphOf, afterParagraph, paragraphsOf}
 use Rattle.schema.specs.Kind.{sComment, sImport, sStruct, sChoice, sField, sDeleted, sArray, sPlain, sCustom}
 use Rattle.schema.specs.Order.{isChain}
-
--- 1 to 128 printable bytes
-unfoldable pub isName : Bytes → Bool
-isName p = within 1 128 (length p) && all isPrintable p
 
 -- a name stands after its length, as a paragraph does: the name, and what follows it
 abbrev pub nameOf : Bytes → Bytes
@@ -64,6 +60,13 @@ isPlainType p = eqb (length p) 2 && isPlain (u16At p 0)
 unfoldable pub isCustom : Bytes → Bool
 isCustom p = isSized p && ((eqb (u16At p 0) 0 || isName (nameOf p)) && isName (afterName p))
 
+unfoldable pub isTypePayload : ℕ → Bytes → Bool
+isTypePayload kind p =
+    pick (eqb kind sArray) (eqb (length p) 0)
+    (pick (eqb kind sPlain) (isPlainType p)
+    (pick (eqb kind sCustom) (isCustom p)
+    false))
+
 unfoldable pub isPayload : ℕ → Bytes → Bool
 isPayload kind p =
     pick (eqb kind sComment) (isComment p)
@@ -71,7 +74,4 @@ isPayload kind p =
     (pick (eqb kind sStruct || eqb kind sChoice) (isDeclaration p)
     (pick (eqb kind sField) (isField p)
     (pick (eqb kind sDeleted) (isDeleted p)
-    (pick (eqb kind sArray) (eqb (length p) 0)
-    (pick (eqb kind sPlain) (isPlainType p)
-    (pick (eqb kind sCustom) (isCustom p)
-    false)))))))
+    (isTypePayload kind p)))))
