@@ -138,9 +138,10 @@ abbrev pub declarationsText : Bool → List Declaration → Bytes
 declarationsText parted [] = []
 declarationsText parted (d ∷ ds) = blank parted ++ declarationText d ++ declarationsText true ds
 
+-- the schema's comment, parted by a blank line from what follows
+unfoldable pub openingText : Schema → Bytes
+openingText s =
+    commentText [] (s .comment) ++ blank (not (isEmpty (s .comment)) && (not (isEmpty (s .imports)) || not (isEmpty (s .declarations))))
+
 unfoldable pub textOf : Schema → Bytes
-textOf s =
-    commentText [] (s .comment)
-    ++ blank (not (isEmpty (s .comment)) && (not (isEmpty (s .imports)) || not (isEmpty (s .declarations))))
-    ++ importsText (s .imports)
-    ++ declarationsText (not (isEmpty (s .imports))) (s .declarations)
+textOf s = openingText s ++ importsText (s .imports) ++ declarationsText (not (isEmpty (s .imports))) (s .declarations)

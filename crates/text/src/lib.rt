@@ -1,5 +1,4 @@
 // The canonical text of a schema, as schema.rs writes it.
-use identifier::Order;
 ghost use mathlib.Core.Path.{_≡_};
 ghost use mathlib.Core.Bool.{true};
 ghost use mathlib.Core.List.{flatMap};
@@ -102,11 +101,7 @@ fn is_inferred(name: &[u8], path: &[u8]) -> bool
     if inferred.len() == 0 {
         return false;
     }
-    match identifier::compare(inferred, name) {
-        Order::Equal => true,
-        Order::Less => false,
-        Order::Greater => false,
-    }
+    identifier::same(inferred, name)
 }
 
 pub fn put_import(out: &mut [u8], at: usize, name: &[u8], path: &[u8]) -> usize

@@ -2,29 +2,45 @@
 use Prim.Native.Nat.{ℕ, _+_, _*_, _-_, _≤_, _<_}
 use mathlib.Core.Path.{_≡_, refl, sym, ap, _∙_}
 use mathlib.Core.Bool.{Bool, true, false, not, _&&_, _||_}
-use mathlib.Core.List.{List, [], _∷_, _++_, append-assoc}
-use mathlib.Core.Logic.{_⊎_, inl, inr, ⊎-elim}
+use mathlib.Core.List.{List, [], _∷_, _++_}
 use native.Mathlib.Omega.{arith}
-use borrow.Author.Tests.{eq-eqb, ne-eqb, eqb-true, eqb-false}
-use lib.Dec.{eqb}
-use lib.ListN.{length, drop}
+use borrow.Author.Tests.{eq-eqb, ne-eqb, eqb-true, eqb-false, ltb-true, ltb-false, lt-ltb, le-ltb}
+use lib.Dec.{ltb, eqb}
+use lib.ListN.{length, drop, length-drop}
 use Rattle.wire.specs.Bytes.{Bytes}
-use Rattle.wire.specs.Pick.{pick}
 use Rattle.wire.specs.Put.{Wrote}
 use Rattle.wire.proofs.Laws.{then, Rest, rest-all, rest-step, rest-none, wrote-length}
 use Rattle.token.specs.Token.{Token}
-use Rattle.token.specs.Table.{tokenOf}
-use Rattle.schema.specs.Ast.{TypeVariant, Field}
-use Rattle.schema.specs.Kind.{sStruct, sChoice, sField, sDeleted}
-use Rattle.schema.specs.Payload.{isField, isPayload}
-use Rattle.schema.specs.Table.{isType, isInside, mayFollow}
-use Rattle.schema.specs.Decode.{fieldOf, fieldsOf, deletedOf, declarationsOf, typeOf}
-use Rattle.schema.specs.Walk.{recordsFrom, kindAt, nextAt, payloadAt, Stands}
-use Rattle.schema.proofs.Walk.{Record, record-at, at-end}
+use Rattle.token.specs.Payload.{paragraphsOf}
+use Rattle.schema.specs.Ast.{TypeVariant}
+use Rattle.schema.specs.Kind.{sField, sDeleted}
+use Rattle.schema.specs.Payload.{isField, afterName}
+use Rattle.schema.specs.Table.{isType, isInside}
+use Rattle.schema.specs.Decode.{fieldOf, fieldsOf, deletedOf, declarationsOf}
+use Rattle.schema.specs.Walk.{recordsFrom, kindAt, nextAt, payloadAt, tokenAt, WholeAt, Stands}
+use Rattle.schema.proofs.Steps.{either, at-field, at-deleted, at-declaration}
+use Rattle.schema.proofs.Walk.{record-at, records-end}
 use Rattle.text.specs.Text.{isEmpty, blank, hasComment, fieldText, fieldsText}
 use Rattle.writer.specs.Parts.{typeAt, depthAt, fieldFrom, isCommented}
 use Rattle.writer.specs.Steps.{Fielded, Fields}
-use Rattle.writer.proofs.Past.{Past, Typed, typed}
+use Rattle.writer.proofs.Types.{typed}
+
+-- a field has a comment where there are bytes after the count of its paragraphs
+paragraphs-some : (bs : Bytes) → not (isEmpty (paragraphsOf bs)) ≡ ltb 0 (length bs)
+unfolding paragraphsOf
+paragraphs-some [] = refl
+paragraphs-some (b ∷ bs) = sym (lt-ltb 0 (length (b ∷ bs)) (omega arith))
+
+after-two : (bs : Bytes) → ltb 2 (length bs) ≡ ltb 0 (length (drop 2 bs))
+after-two bs = go (ltb 2 (length bs)) refl
+  where
+    go : (b : Bool) → ltb 2 (length bs) ≡ b → ltb 2 (length bs) ≡ ltb 0 (length (drop 2 bs))
+    go true e = e ∙ sym (lt-ltb 0 (length (drop 2 bs)) (omega (arith, length-drop 2 bs, ltb-true 2 (length bs) e)))
+    go false e = e ∙ sym (le-ltb 0 (length (drop 2 bs)) (omega (arith, length-drop 2 bs, ltb-false 2 (length bs) e)))
+
+pub commented-is : (p : Bytes) → ltb 2 (length (afterName (drop 9 p))) ≡ isCommented p
+unfolding isCommented
+commented-is p = after-two (afterName (drop 9 p)) ∙ sym (paragraphs-some (drop 2 (afterName (drop 9 p))))
 
 field-text : (r : Token) (type : TypeVariant) → fieldText (fieldOf r type) ≡ fieldFrom (r .payload) type
 unfolding fieldText fieldFrom
@@ -34,47 +50,36 @@ field-has : (r : Token) (type : TypeVariant) → hasComment (fieldOf r type) ≡
 unfolding isCommented
 field-has r type = refl
 
-fields-cons : (r : Token) (rs : List Token) → r .kind ≡ sField → fieldsOf (r ∷ rs) ≡ fieldOf r (typeOf rs) ∷ fieldsOf rs
-fields-cons r rs e = rw (eq-eqb (r .kind) sField e, fieldsOf)
-
 -- a field's record, and its type after it
 pub record FieldAt (t : Bytes) (at : ℕ) : Type 0 where
-  pub head : at + 12 ≤ nextAt t at
-  pub tail : nextAt t at ≤ length t
+  pub whole : WholeAt t at
   pub right : isField (payloadAt t at) ≡ true
   pub type : Stands t (nextAt t at) isType
-  pub fields : fieldsOf (recordsFrom t at) ≡ fieldOf (tokenOf (drop at t)) (typeAt t (nextAt t at)) ∷ fieldsOf (recordsFrom t (nextAt t at))
-  pub text : fieldText (fieldOf (tokenOf (drop at t)) (typeAt t (nextAt t at))) ≡ fieldFrom (payloadAt t at) (typeAt t (nextAt t at))
-  pub has : hasComment (fieldOf (tokenOf (drop at t)) (typeAt t (nextAt t at))) ≡ isCommented (payloadAt t at)
+  pub fields : fieldsOf (recordsFrom t at) ≡ fieldOf (tokenAt t at) (typeAt t (nextAt t at)) ∷ fieldsOf (recordsFrom t (nextAt t at))
   pub deleted : deletedOf (recordsFrom t at) ≡ deletedOf (recordsFrom t (nextAt t at))
   pub later : declarationsOf (recordsFrom t at) ≡ declarationsOf (recordsFrom t (nextAt t at))
 
 pub field-at : {t : Bytes} {at : ℕ} → Stands t at isInside → at < length t → kindAt t at ≡ sField → FieldAt t at
-unfolding isPayload mayFollow pick
 field-at {t} {at} s h e =
     let r = record-at s h in
-    let k : tokenOf (drop at t) .kind ≡ sField = r .kind ∙ e in
+    let q = at-field (recordsFrom t (nextAt t at)) (tokenAt t at) e (r .right) in
     record {
-      head = r .head;
-      tail = r .tail;
-      right = rw e at (r .right);
-      type = r .next isType (λ j. rw e);
-      fields = ap fieldsOf (r .records) ∙ fields-cons (tokenOf (drop at t)) (recordsFrom t (nextAt t at)) k;
-      text = field-text (tokenOf (drop at t)) (typeAt t (nextAt t at)) ∙ rw (r .payload);
-      has = field-has (tokenOf (drop at t)) (typeAt t (nextAt t at)) ∙ rw (r .payload);
-      deleted = ap deletedOf (r .records) ∙ rw (k, deletedOf, k);
-      later = ap declarationsOf (r .records) ∙ rw (k, declarationsOf);
+      whole = r .whole;
+      right = q .rule;
+      type = r .next isType (q .after);
+      fields = ap fieldsOf (r .records) ∙ q .fields;
+      deleted = ap deletedOf (r .records) ∙ q .deleted;
+      later = ap declarationsOf (r .records) ∙ q .declarations;
     }
 
--- what may stand in a declaration and is no field is no type either
-no-type : (k : ℕ) → isInside k ≡ true → eqb k sField ≡ false → isType k ≡ false
-no-type k e f = go (eqb k sDeleted) refl (eqb k 0) refl (eqb k sStruct) refl
-  where
-    go : (a : Bool) → eqb k sDeleted ≡ a → (b : Bool) → eqb k 0 ≡ b → (c : Bool) → eqb k sStruct ≡ c → isType k ≡ false
-    go true p b q c r = rw (eqb-true k sDeleted p)
-    go false p true q c r = rw (eqb-true k 0 q)
-    go false p false q true r = rw (eqb-true k sStruct r)
-    go false p false q false r = rw (eqb-true k sChoice (rw (f, p, q, r) at e))
+-- after the last field
+no-field : {t : Bytes} {at : ℕ} → Stands t at isInside → at < length t → eqb (kindAt t at) sField ≡ false → fieldsOf (recordsFrom t at) ≡ []
+no-field {t} {at} s h e =
+    let r = record-at s h in
+    let rest = recordsFrom t (nextAt t at) in
+    ap fieldsOf (r .records)
+    ∙ either (eqb (kindAt t at) sDeleted) _ (rw e at (r .allowed)) (λ q. at-deleted rest (tokenAt t at) (eqb-true _ _ q) (r .right) .fields)
+    (λ q. at-declaration rest (tokenAt t at) q (r .right) .fields)
 
 -- what is left of a declaration's fields at a place
 pub record Fielding (t : Bytes) (from : ℕ) (o₀ : Bytes) (to₀ : ℕ) (o : Bytes) (a at : ℕ) (commented : Bool) : Type 0 where
@@ -103,15 +108,15 @@ module _ {t : Bytes} {from : ℕ} {o₀ : Bytes} {to₀ : ℕ} {o : Bytes} {a at
       let f = field-at (g .stands) h e in
       let y = typed (depthAt t (nextAt t at)) (f .type) refl i in
       let p = y .past in
-      let low = f .head in
-      let high = y .head in
+      let low = f .whole in
+      let high = y .whole in
       let on = g .onward in
       let z : eqb (nextAt t inner) from ≡ false = ne-eqb (nextAt t inner) from (λ q. omega arith) in
       rw n
       (record {
-        stands = y .stands;
+        stands = y .next;
         onward = omega arith;
-        left = rest-step (then v w) (g .left) (ap (fieldsText (not (eqb at from)) commented) (f .fields) ∙ rw (f .has, ← c, f .text, p .fields, z));
+        left = rest-step (then v w) (g .left) (ap (fieldsText (not (eqb at from)) commented) (f .fields) ∙ rw (field-has (tokenAt t at) (typeAt t (nextAt t at)), ← c, field-text (tokenAt t at) (typeAt t (nextAt t at)), p .fields, z));
         some = λ q. some-field h e (eqb at from) refl;
         deleted = g .deleted ∙ f .deleted ∙ p .deleted;
         later = g .later ∙ f .later ∙ p .later;
@@ -135,9 +140,7 @@ module _ {t : Bytes} {from : ℕ} {o₀ : Bytes} {to₀ : ℕ} {o : Bytes} {a at
       empty false q = g .some (eqb-false at from q) ∙ sym q
 
   pub fielding-end : length t ≤ at → Fields t from o₀ to₀ o at a
-  fielding-end h = done (ap fieldsOf (at-end (g .stands) h)) (λ k. absurd (omega arith))
+  fielding-end h = done (ap fieldsOf (records-end t at h)) (λ k. absurd (omega arith))
 
   pub fielding-other : at < length t → eqb (kindAt t at) sField ≡ false → Fields t from o₀ to₀ o at a
-  fielding-other h e =
-      let r = record-at (g .stands) h in
-      done (ap fieldsOf (r .records) ∙ rw (r .kind, e, fieldsOf, r .kind, no-type (kindAt t at) (r .allowed) e)) (λ k. e)
+  fielding-other h e = done (no-field (g .stands) h e) (λ k. e)

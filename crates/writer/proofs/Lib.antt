@@ -1,5 +1,5 @@
 -- The laws of writing a schema table's text.
 pub mod Types
-pub mod FieldParts
-pub mod Past
 pub mod Fields
+pub mod Declarations
+pub mod Imports

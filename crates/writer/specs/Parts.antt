@@ -7,13 +7,12 @@ use lib.ListN.{getD, drop}
 use Rattle.wire.specs.Bytes.{Bytes}
 use Rattle.wire.specs.Le.{u16At, u64At}
 use Rattle.wire.specs.Pick.{pick}
-use Rattle.token.specs.Table.{tokenOf}
 use Rattle.schema.specs.Ast.{TypeVariant, Declaration}
 use Rattle.schema.specs.Kind.{sPlain}
 use Rattle.schema.specs.Limits.{nesting}
-use Rattle.schema.specs.Payload.{nameOf, afterName}
+use Rattle.schema.specs.Payload.{isPlainType, isCustom, nameOf, afterName}
 use Rattle.schema.specs.Decode.{optional, commentOf, ruleOf, typeOf, fieldsOf, deletedOf, declarationOf}
-use Rattle.schema.specs.Walk.{recordsFrom, nextAt}
+use Rattle.schema.specs.Walk.{recordsFrom, nextAt, tokenAt}
 use Rattle.text.specs.Text.{isEmpty, plainText, customText, fieldName, fieldType, fieldIndex}
 
 abbrev pub typeAt : Bytes → ℕ → TypeVariant
@@ -23,7 +22,10 @@ typeAt t at = typeOf (recordsFrom t at)
 abbrev pub depthAt : Bytes → ℕ → ℕ
 depthAt t at = nesting (typeAt t at)
 
--- the text of a type that is no array, from its record's kind and payload
+-- a type that is no array, by its record's kind and payload: its rule and its text
+unfoldable pub isBase : ℕ → Bytes → Bool
+isBase kind p = pick (eqb kind sPlain) (isPlainType p) (isCustom p)
+
 unfoldable pub baseText : ℕ → Bytes → Bytes
 baseText kind p = pick (eqb kind sPlain) (plainText (u16At p 0)) (customText (optional (nameOf p)) (afterName p))
 
@@ -35,4 +37,4 @@ unfoldable pub isCommented : Bytes → Bool
 isCommented p = not (isEmpty (commentOf (afterName (drop 9 p))))
 
 abbrev pub declarationAt : Bytes → ℕ → Declaration
-declarationAt t at = declarationOf (tokenOf (drop at t)) (fieldsOf (recordsFrom t (nextAt t at))) (deletedOf (recordsFrom t (nextAt t at)))
+declarationAt t at = declarationOf (tokenAt t at) (fieldsOf (recordsFrom t (nextAt t at))) (deletedOf (recordsFrom t (nextAt t at)))

@@ -2,14 +2,14 @@
 -- table that it left, from which on the rest of the schema is still to be written.
 use Prim.Native.Nat.{ℕ, _<_, _≤_}
 use mathlib.Core.Path.{_≡_}
-use mathlib.Core.Bool.{Bool, true, false, _||_}
+use mathlib.Core.Bool.{Bool, true, false}
 use mathlib.Core.List.{_∷_, _++_}
 use lib.Dec.{eqb}
 use lib.ListN.{length}
 use Rattle.wire.specs.Bytes.{Bytes, bytes}
 use Rattle.wire.specs.Put.{Wrote}
-use Rattle.schema.specs.Kind.{sImport, sStruct, sChoice, sField}
-use Rattle.schema.specs.Table.{isInside}
+use Rattle.schema.specs.Kind.{sField}
+use Rattle.schema.specs.Table.{isInside, isImporting, isOutside}
 use Rattle.schema.specs.Decode.{importsOf, fieldsOf, deletedOf, declarationsOf}
 use Rattle.schema.specs.Walk.{recordsFrom, kindAt, Stands}
 use Rattle.text.specs.Text.{isEmpty, importsText, fieldsText, deletedText, declarationText}
@@ -19,13 +19,13 @@ use Rattle.writer.specs.Parts.{declarationAt}
 pub record Outside (t : Bytes) (at : ℕ) : Type 0 where
   pub may : ℕ → Bool
   pub stands : Stands t at may
-  pub begins : at < length t → (eqb (kindAt t at) sStruct || eqb (kindAt t at) sChoice) ≡ true
+  pub begins : at < length t → isOutside (kindAt t at) ≡ true
 
 -- an import or a declaration begins here, or the table ends
 pub record Opened (t : Bytes) (at : ℕ) : Type 0 where
   pub may : ℕ → Bool
   pub stands : Stands t at may
-  pub begins : at < length t → (eqb (kindAt t at) sImport || (eqb (kindAt t at) sStruct || eqb (kindAt t at) sChoice)) ≡ true
+  pub begins : at < length t → isImporting (kindAt t at) ≡ true
 
 -- the fields of a declaration are behind
 pub record Fielded (t : Bytes) (at : ℕ) : Type 0 where

@@ -1,19 +1,16 @@
 // The canonical text of a schema table: schema.rs's writers, over the records of a table that the check let pass.
 ghost use mathlib.Core.Path.{_≡_};
-ghost use mathlib.Core.Bool.{true, false};
+ghost use mathlib.Core.Bool.{true};
 ghost use Prim.Native.Nat.{_+_, _*_, _<_};
-ghost use lib.Dec.{eqb};
 ghost use lib.ListN.{length};
 ghost use Rattle.wire.specs.Put.{Wrote};
-ghost use Rattle.schema.specs.Kind.{sArray};
-ghost use Rattle.schema.specs.Payload.{isField, isPayload};
+ghost use Rattle.schema.specs.Payload.{isField};
 ghost use Rattle.schema.specs.Table.{isInside, isType};
 ghost use Rattle.schema.specs.Decode.{declarationsOf};
 ghost use Rattle.schema.specs.Walk.{recordsFrom, Stands};
 ghost use Rattle.text.specs.Text.{typeText, isUnit, fieldType, declarationsText};
-ghost use Rattle.writer.specs.Parts.{typeAt, depthAt, baseText, fieldFrom, isCommented};
+ghost use Rattle.writer.specs.Parts.{typeAt, depthAt, isBase, baseText, fieldFrom, isCommented};
 ghost use Rattle.writer.specs.Steps.{Outside, Opened, Fielded, Fields, Ended, Declared, Imported};
-
 use schema::kind;
 
 // The place of the type inside all arrays of a type.
@@ -30,7 +27,7 @@ fn innermost(t: &[u8], from: usize) -> usize
 
 // A plain type or a custom one.
 fn put_base(out: &mut [u8], at: usize, kind: u16, p: &[u8]) -> usize
-    requires { ⌜ (isType kind ≡ true) × (eqb kind sArray ≡ false) × (isPayload kind (now p) ≡ true) ⌝ }
+    requires { ⌜ isBase kind (now p) ≡ true ⌝ }
     ensures { λ r. ⌜ Wrote (now (out .entry)) at (baseText kind (now (p .entry))) (now (out .exit)) r ⌝ }
 {
     if kind == kind::PLAIN {

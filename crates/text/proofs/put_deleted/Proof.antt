@@ -13,7 +13,7 @@ put-indices-requires c κs = deleted-parts (c .before .before .before .before .b
 
 returns : tie.Need-returns
 unfolding deletedText
-returns c = 
+returns c =
     let p = deleted-parts (c .before .before .before .before .before .before .before .before .before .before .before .before .before .before .before .before .before .before .before .pre) in
     wrote-no _ _ _ (some-index _ (p .some) (p .whole)) (then (then (then (c .before .before .before .before .before .before .before .before .before .before .before .before .before .before .before .put-blank .ensures) (c .before .before .before .before .before .before .before .before .before .before .put-slice .ensures)) (c .before .before .before .before .before .before .put-indices .ensures)) (c .before .before .put-byte .ensures))
 

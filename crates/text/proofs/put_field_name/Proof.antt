@@ -27,7 +27,7 @@ put-snake-requires c κs = rw (c .name-of .ensures) (head-parts (c .before .befo
 
 returns : tie.Need-returns
 unfolding fieldName
-returns c = 
+returns c =
     let d = c .before .before .before .before .before .before .before .before .before .before .before .before .before .before .before .before in
     then
     (then (then (rw (tail-part _ 2, d .before .before .before .before .after-name .ensures) at (d .put-comment .ensures)) (c .before .before .before .before .before .before .before .before .before .before .before .put-slice .ensures)) (c .before .before .before .before .before .before .before .put-rule .ensures))

@@ -27,7 +27,7 @@ put-pascal-requires c κs = rw (c .name-of .ensures) (head-parts (c .before .bef
 
 returns : tie.Need-returns
 unfolding headText
-returns c = 
+returns c =
     let d = c .before .before .before .before .before .before .before .before .before .before .before .before .before .before .before .before in
     then
     (then (then (rw (tail-part _ 2, d .before .before .before .before .after-name .ensures) at (d .put-comment .ensures)) (c .before .before .before .before .before .before .before .before .before .before .before .before .put-keyword .ensures)) (rw (c .before .before .before .before .before .before .before .before .name-of .ensures) at (c .before .before .before .before .before .before .before .put-pascal .ensures)))

@@ -18,13 +18,13 @@ loop-holds : tie.Need-loop-holds Inv-loop μ-loop
 loop-holds c = deeper-begin (c .before .pre)
 
 kind-at-requires : tie.Need-kind-at-requires Inv-loop μ-loop
-kind-at-requires c κs = omega (arith, type-record (c .loop .inv .stands))
+kind-at-requires c κs = omega (arith, type-record (c .loop .inv .stands) .whole)
 
 add-at : tie.Need-add-at Inv-loop μ-loop
-add-at c = omega (arith, type-record (c .before .before .loop .inv .stands))
+add-at c = omega (arith, type-record (c .before .before .loop .inv .stands) .whole)
 
 loop-less : tie.Need-loop-less Inv-loop μ-loop
-loop-less c = omega (arith, type-record (c .before .before .loop .inv .stands))
+loop-less c = omega (arith, type-record (c .before .before .loop .inv .stands) .whole)
 
 loop-again : tie.Need-loop-again Inv-loop μ-loop
 loop-again c = deeper-more (c .before .before .loop .inv) (sym (c .before .kind-at .ensures) ∙ c .if1 .taken)

@@ -1,30 +1,32 @@
 -- `writer::put_base` meets its contract.
 use borrow.Author.Needs.{needs}
+use mathlib.Core.Path.{sym, _∙_}
 use native.Mathlib.Omega.{arith}
 use borrow.Author.Tests.{eq-eqb, ne-eqb}
 use Rattle.wire.proofs.Laws.{wrote-length}
 use Rattle.text.proofs.Laws.{wrote-yes, wrote-no}
+use Rattle.text.proofs.Parts.{plain-size, custom-parts}
 use Rattle.writer.specs.Parts.{baseText}
-use Rattle.writer.proofs.Types.{plain-room, custom-type}
+use Rattle.writer.proofs.Types.{plain-base, custom-base}
 use Rattle.writer.proofs.put_base.Statement.{statement}
 use Rattle.writer.proofs.put_base.Tie as tie
 
 u16-at-requires : tie.Need-u16-at-requires
-u16-at-requires c κs = omega (arith, plain-room _ (c .before .if1 .taken) (c .before .before .before .before .pre .2))
+u16-at-requires c κs = omega (arith, plain-size _ (plain-base _ (c .before .if1 .taken) (c .before .before .before .before .pre)))
 
 returns : tie.Need-returns
 unfolding baseText
 returns c = wrote-yes _ _ _ (eq-eqb _ _ (c .before .before .before .before .before .if1 .taken)) (rw (c .before .before .before .u16-at .ensures) at (c .before .before .put-plain .ensures))
 
 name-of-requires : tie.Need-name-of-requires
-name-of-requires c κs = custom-type (c .before .before .before .before .pre .0) (c .before .before .before .before .pre .1) (c .before .if1 .left) (c .before .before .before .before .pre .2) .sized
+name-of-requires c κs = custom-parts (custom-base _ (c .before .if1 .left) (c .before .before .before .before .pre)) .sized
 
 after-name-requires : tie.Need-after-name-requires
-after-name-requires c κs = custom-type (c .before .before .before .before .before .pre .0) (c .before .before .before .before .before .pre .1) (c .before .before .if1 .left) (c .before .before .before .before .before .pre .2) .sized
+after-name-requires c κs = custom-parts (custom-base _ (c .before .before .if1 .left) (c .before .before .before .before .before .pre)) .sized
 
 put-custom-requires : tie.Need-put-custom-requires
-put-custom-requires c κs = 
-    let p = custom-type (c .before .before .before .before .before .before .pre .0) (c .before .before .before .before .before .before .pre .1) (c .before .before .before .if1 .left) (c .before .before .before .before .before .before .pre .2) in
+put-custom-requires c κs =
+    let p = custom-parts (custom-base _ (c .before .before .before .if1 .left) (c .before .before .before .before .before .before .pre)) in
     (rw (c .before .name-of .ensures) (p .import), rw (c .after-name .ensures) (p .name))
 
 returns-2 : tie.Need-returns-2

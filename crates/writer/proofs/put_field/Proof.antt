@@ -2,9 +2,8 @@
 use borrow.Author.Needs.{needs}
 use native.Mathlib.Omega.{arith}
 use Rattle.wire.proofs.Laws.{then, wrote-length}
-use Rattle.text.proofs.Parts.{tail-part}
+use Rattle.text.proofs.Parts.{tail-part, field-parts}
 use Rattle.writer.specs.Parts.{fieldFrom}
-use Rattle.writer.proofs.FieldParts.{field-parts}
 use Rattle.writer.proofs.put_field.Statement.{statement}
 use Rattle.writer.proofs.put_field.Tie as tie
 

@@ -9,7 +9,7 @@ use lib.ListN.{length}
 use Rattle.wire.proofs.Laws.{wrote-length}
 use Rattle.schema.specs.Walk.{nextAt}
 use Rattle.schema.proofs.Walk.{record-at}
-use Rattle.writer.proofs.Past.{Typed, typed}
+use Rattle.writer.proofs.Types.{Typed, typed}
 use Rattle.writer.proofs.Fields.{Fielding, fielding-begin, fielding-more, fielding-end, fielding-other, FieldAt, field-at}
 use Rattle.writer.proofs.put_fields.Statement.{statement}
 use Rattle.writer.proofs.put_fields.Tie as tie
@@ -31,42 +31,42 @@ loop-holds : tie.Need-loop-holds Inv-loop μ-loop
 loop-holds c = fielding-begin (c .before .before .pre)
 
 kind-at-requires : tie.Need-kind-at-requires Inv-loop μ-loop
-kind-at-requires c κs = omega (arith, record-at (c .before .loop .inv .stands) (c .loop-test .taken))
+kind-at-requires c κs = omega (arith, record-at (c .before .loop .inv .stands) (c .loop-test .taken) .whole)
 
 returns : tie.Need-returns Inv-loop μ-loop
 returns c = fielding-other (c .before .before .before .loop .inv) (c .before .before .loop-test .taken) (ne-eqb _ _ (λ e. c .if1 .taken (c .before .kind-at .ensures ∙ e)))
 
 next-at-requires : tie.Need-next-at-requires Inv-loop μ-loop
-next-at-requires c κs = let f = here c in (omega (arith, f), f .tail)
+next-at-requires c κs = let w = here c .whole in (omega (arith, w), w .tail)
 
 innermost-requires : tie.Need-innermost-requires Inv-loop μ-loop
 innermost-requires c κs = rw (c .next-at .ensures) (here (c .before) .type)
 
 payload-at-requires : tie.Need-payload-at-requires Inv-loop μ-loop
-payload-at-requires c κs = let f = here (c .before .before) in (f .head, f .tail)
+payload-at-requires c κs = here (c .before .before) .whole
 
 has-comment-requires : tie.Need-has-comment-requires Inv-loop μ-loop
 has-comment-requires c κs = rw (c .payload-at .ensures) (here (c .before .before .before) .right)
 
 next-at-requires-2 : tie.Need-next-at-requires-2 Inv-loop μ-loop
-next-at-requires-2 c κs = let y = inside (c .before .before .before .before .before .before) in (omega (arith, y), y .tail)
+next-at-requires-2 c κs = let w = inside (c .before .before .before .before .before .before) .whole in (omega (arith, w), w .tail)
 
 sub-put-field : tie.Need-sub-put-field Inv-loop μ-loop
 sub-put-field c = omega (arith, c .before .before .before .before .before .before .before .before .innermost .ensures)
 
 put-field-requires : tie.Need-put-field-requires Inv-loop μ-loop
-put-field-requires c κs = 
+put-field-requires c κs =
     let d = c .before .before .before .before .before .before .before .before in
     let f = here (d .before .before) in
     (rw (c .before .before .before .before .before .before .before .payload-at .ensures) (f .right), rw (d .before .next-at .ensures) (f .type), omega (arith, d .innermost .ensures))
 
 loop-less : tie.Need-loop-less Inv-loop μ-loop
-loop-less c = 
+loop-less c =
     let d = c .before .before .before .before .before .before .before .before .before .before .before in
-    omega (arith, here (d .before .before), inside d, c .before .before .before .before .next-at2 .ensures, d .innermost .ensures, d .before .next-at .ensures)
+    omega (arith, here (d .before .before) .whole, inside d .whole, c .before .before .before .before .next-at2 .ensures, d .innermost .ensures, d .before .next-at .ensures)
 
 loop-again : tie.Need-loop-again Inv-loop μ-loop
-loop-again c = 
+loop-again c =
     let d = c .before .before .before .before .before .before .before .before .before .before .before in
     let n = d .before .next-at .ensures in
     let p = c .before .before .before .before .before .before .before .before .before .before .payload-at .ensures in
