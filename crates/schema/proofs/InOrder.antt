@@ -1,19 +1,18 @@
 -- The records that a schema within the limits is written as fit their places, and follow one another as a schema table's do.
-use mathlib.Core.Path.{_≡_, refl, sym, ap, _∙_}
-use mathlib.Core.Bool.{Bool, true, false, _&&_, _||_}
-use mathlib.Core.List.{List, [], _∷_, _++_}
-use Prim.Native.Nat.{ℕ, suc, _+_, _≤_, _<_}
+use mathlib.Core.Path.{_≡_, refl}
+use mathlib.Core.Bool.{Bool, true, false}
+use mathlib.Core.List.{List, [], _∷_}
+use Prim.Native.Nat.{ℕ, _+_, _≤_, _<_}
 use native.Mathlib.Nat.{zero-add}
 use native.Mathlib.Omega.{arith}
 use borrow.Author.Tests.{le-leb}
-use lib.Dec.{leb, eqb}
-use lib.ListN.{length}
+use lib.Dec.{eqb}
 use Rattle.wire.specs.Bytes.{Bytes}
 use Rattle.wire.specs.Pick.{pick}
 use Rattle.identifier.specs.Order.{isBefore}
 use Rattle.token.specs.Token.{Token}
 use Rattle.schema.specs.Ast.{Range, TypeVariant, Field, Import, DeclarationVariant, Declaration, Schema}
-use Rattle.schema.specs.Kind.{sComment, sImport, sStruct, sChoice, sField, sDeleted, sArray, sPlain, sCustom}
+use Rattle.schema.specs.Kind.{sImport, sStruct, sChoice, sField, sDeleted, sArray, sPlain, sCustom}
 use Rattle.schema.specs.Order.{isChainAfter, isChain}
 use Rattle.schema.specs.Limits.{Each, RangeWithin, CommentWithin, ImportWithin, TypeWithin, nesting, FieldWithin, DeletedWithin, DeclarationWithin, isEarlier, Within}
 use Rattle.schema.specs.Encode.{nowhere, declarationKind, declarationPayload, importPayload}

@@ -1,6 +1,6 @@
 -- The parts of a payload are read where they were written, and written where they were read.
 use mathlib.Core.Path.{_≡_, refl, sym, ap, _∙_}
-use mathlib.Core.Bool.{true, _&&_}
+use mathlib.Core.Bool.{true}
 use mathlib.Core.List.{List, [], _∷_, _++_}
 use Prim.Native.Nat.{ℕ, zero, suc, _+_, _*_, _-_, _/_, _^_, _≤_, _<_}
 use native.Mathlib.Omega.{arith}
@@ -9,7 +9,7 @@ use lib.Dec.{leb}
 use lib.ListN.{length, take, drop, length-append, length-take, length-drop, take-append-drop}
 use lib.Seq.{drop-at, take-add, drop-drop, length-take-le}
 use Rattle.wire.specs.Bytes.{Bytes}
-use Rattle.wire.specs.Le.{leBytes, leAt, u16At, u64At}
+use Rattle.wire.specs.Le.{leBytes, leAt, u16At}
 use Rattle.wire.proofs.Numbers.{AllBytes, leBytes-length, leAt-leBytes}
 use Rattle.token.specs.Payload.{paragraphOf, afterParagraph}
 use Rattle.token.proofs.Laws.{part-from}

@@ -1,26 +1,26 @@
 -- Within the limits a payload that was written is right and short, and gives its parts back.
-use mathlib.Core.Path.{_≡_, refl, sym, ap, _∙_}
-use mathlib.Core.Bool.{Bool, true, false, _&&_, _||_}
+use mathlib.Core.Path.{_≡_, refl, ap, _∙_}
+use mathlib.Core.Bool.{Bool, true, false, _||_}
 use mathlib.Core.Option.{Option, none, some}
 use mathlib.Core.List.{List, [], _∷_, _++_, append-assoc}
-use Prim.Native.Nat.{ℕ, zero, suc, _+_, _*_, _-_, _/_, _%_, _≤_, _<_}
+use Prim.Native.Nat.{ℕ, suc, _+_, _%_, _≤_, _<_}
 use native.Mathlib.Omega.{arith}
 use borrow.Author.Tests.{leb-true, le-leb, eq-eqb, ne-eqb, ltb-true, ltb-false}
 use lib.Dec.{leb, ltb, eqb}
 use lib.ListN.{length, getD, drop, length-append}
 use lib.Seq.{drop-at}
 use Rattle.wire.specs.Bytes.{Bytes}
-use Rattle.wire.specs.Le.{leBytes, leAt, u16At, u64At}
+use Rattle.wire.specs.Le.{leBytes, u16At, u64At}
 use Rattle.wire.specs.Pick.{pick}
 use Rattle.wire.proofs.Numbers.{leBytes-length, leAt-leBytes}
 use Rattle.identifier.specs.Byte.{within}
 use Rattle.identifier.specs.Name.{isName}
-use Rattle.token.specs.Kind.{isPlain, kBool, kBytes, kF64, kS64, kString, kU64, kUnit}
-use Rattle.token.specs.Payload.{all, atLeast, isPath, isPathByte, isComment, areParagraphs, paragraphsIn, paragraphsOf, paragraphBytes}
-use Rattle.schema.specs.Ast.{Range, TypeVariant, Rule, Field, Import, DeclarationVariant, Declaration}
-use Rattle.schema.specs.Limits.{Each, RangeWithin, CommentWithin, ImportWithin, OptionWithin, FieldWithin, DeletedWithin, DeclarationWithin}
+use Rattle.token.specs.Kind.{isPlain}
+use Rattle.token.specs.Payload.{all, isPath, isComment, areParagraphs, paragraphsIn, paragraphsOf, paragraphBytes}
+use Rattle.schema.specs.Ast.{Rule, Field, Import, Declaration}
+use Rattle.schema.specs.Limits.{CommentWithin, ImportWithin, OptionWithin, FieldWithin, DeletedWithin, DeclarationWithin}
 use Rattle.schema.specs.Encode.{sized, counted, importPayload, importPart, ruleNumber, fieldPayload, indices, declarationPayload}
-use Rattle.schema.specs.Payload.{isSized, isNamed, nameOf, afterName, isImport, isCounted, isDeclaration, isField, indicesOf, isDeleted, isPlainType, isCustom}
+use Rattle.schema.specs.Payload.{isNamed, nameOf, afterName, isImport, isCounted, isDeclaration, isField, isDeleted, isPlainType, isCustom}
 use Rattle.schema.specs.Decode.{commentOf, optional, ruleOf}
 use Rattle.schema.proofs.Records.{both}
 use Rattle.token.proofs.Paragraphs.{page-size, page-first, page-after, page-length, paragraphs-found, paragraphs-small}

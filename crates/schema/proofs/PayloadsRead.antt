@@ -1,31 +1,29 @@
 -- A payload that is right is written back as it was read, and its parts are within the limits.
-use mathlib.Core.Path.{_≡_, refl, sym, ap, _∙_}
-use mathlib.Core.Bool.{Bool, true, false, _&&_, _||_}
-use mathlib.Core.Option.{Option, none, some}
+use mathlib.Core.Path.{_≡_, refl, ap, _∙_}
+use mathlib.Core.Bool.{true, _||_}
+use mathlib.Core.Option.{some}
 use mathlib.Core.List.{List, [], _∷_, _++_, append-assoc}
-use Prim.Native.Nat.{ℕ, zero, suc, _+_, _*_, _-_, _/_, _%_, _≤_, _<_}
+use Prim.Native.Nat.{ℕ, zero, suc, _+_, _/_, _%_, _≤_, _<_}
 use native.Mathlib.Omega.{arith}
 use borrow.Author.Tests.{leb-true, eqb-true, ne-eqb}
-use lib.Dec.{leb, ltb, eqb}
+use lib.Dec.{leb, eqb}
 use lib.ListN.{length, getD, take, drop, take-append-drop}
-use lib.Seq.{take-add, take-all}
+use lib.Seq.{take-all}
 use Rattle.wire.specs.Bytes.{Bytes}
-use Rattle.wire.specs.Le.{leBytes, leAt, u16At, u64At}
+use Rattle.wire.specs.Le.{leBytes, u16At, u64At}
 use Rattle.wire.specs.Pick.{pick}
 use Rattle.wire.proofs.Numbers.{AllBytes}
 use Rattle.identifier.specs.Name.{isName}
 use Rattle.token.specs.Kind.{isPlain}
-use Rattle.token.specs.Payload.{isPath, isComment, areParagraphs, paragraphOf, afterParagraph, paragraphsIn, paragraphsOf, paragraphBytes}
-use Rattle.schema.specs.Ast.{Range, TypeVariant, Rule, Field, Import, DeclarationVariant, Declaration}
-use Rattle.schema.specs.Limits.{Each, RangeWithin, CommentWithin, ImportWithin, OptionWithin, FieldWithin, DeletedWithin, DeclarationWithin}
-use Rattle.schema.specs.Order.{isChain}
-use Rattle.schema.specs.Encode.{sized, counted, importPayload, importPart, ruleNumber, fieldPayload, indices, declarationPayload}
-use Rattle.schema.specs.Payload.{isSized, isNamed, nameOf, afterName, isImport, isCounted, isDeclaration, isField, indicesIn, indicesOf, isDeleted, isPlainType, isCustom}
+use Rattle.token.specs.Payload.{isPath, isComment, areParagraphs, paragraphsOf, paragraphBytes}
+use Rattle.schema.specs.Limits.{CommentWithin, OptionWithin, DeletedWithin}
+use Rattle.schema.specs.Encode.{sized, counted, importPart, ruleNumber, indices}
+use Rattle.schema.specs.Payload.{isSized, isNamed, nameOf, afterName, isImport, isCounted, isDeclaration, isField, indicesOf, isDeleted, isPlainType, isCustom}
 use Rattle.schema.specs.Decode.{commentOf, optional, ruleOf}
 use Rattle.schema.proofs.Records.{both}
 use Rattle.token.proofs.Paragraphs.{all-drop, paragraphs-good, paragraphs-again}
 use Rattle.token.proofs.Encode.{bytes-at}
-use Rattle.schema.proofs.Parts.{leAt-small, bytes-after, Sized, sized-facts, name-back, IndicesRead, indices-read}
+use Rattle.schema.proofs.Parts.{leAt-small, bytes-after, sized-facts, name-back, IndicesRead, indices-read}
 
 module _ (p : Bytes) (a : AllBytes p) where
   -- a name and what follows it

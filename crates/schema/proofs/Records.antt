@@ -1,19 +1,13 @@
 -- The records of a table, one after the other: at the front of its bytes, and as they were written.
-use mathlib.Core.Path.{_≡_, refl, sym, ap, _∙_}
+use mathlib.Core.Path.{_≡_, refl, _∙_}
 use mathlib.Core.Bool.{Bool, true, false, _&&_, and-eq-true-iff}
-use mathlib.Core.List.{List, [], _∷_, _++_, append-assoc}
-use Prim.Native.Nat.{ℕ, zero, suc, _+_, _-_, _≤_, _<_}
-use native.Mathlib.Nat.{zero-add}
+use mathlib.Core.List.{List, [], _∷_}
+use Prim.Native.Nat.{ℕ, zero, suc, _-_, _≤_, _<_}
 use native.Mathlib.Numerals.{sub-one}
 use native.Mathlib.Omega.{arith}
 use borrow.Author.Tests.{le-leb}
-use lib.Dec.{leb}
-use lib.ListN.{length, take, drop, length-append, length-drop}
-use lib.Seq.{take-at, drop-at}
+use lib.ListN.{length, drop}
 use Rattle.wire.specs.Bytes.{Bytes}
-use Rattle.wire.specs.Le.{leBytes, leAt, u16At, u32At}
-use Rattle.wire.specs.Record.{headBytes, recordBytes}
-use Rattle.wire.proofs.Numbers.{leBytes-length, leAt-leBytes}
 use Rattle.token.specs.Token.{Token}
 use Rattle.token.specs.Table.{sizeOf, tokenOf, isWhole, encodeTokens}
 use Rattle.token.proofs.Records.{fits, whole-is}

@@ -1,16 +1,12 @@
 -- The records of a framed table are written back as they were read, and their numbers fit.
-use mathlib.Core.Path.{_≡_, refl, sym, ap, _∙_}
-use mathlib.Core.Bool.{Bool, true, false}
-use mathlib.Core.List.{List, [], _∷_, _++_}
-use Prim.Native.Nat.{ℕ, zero, suc, _+_, _-_, _≤_, _<_}
+use mathlib.Core.Path.{_≡_, refl, sym, _∙_}
+use mathlib.Core.Bool.{true}
+use mathlib.Core.List.{[], _∷_}
+use Prim.Native.Nat.{ℕ, zero, suc, _-_, _≤_}
 use native.Mathlib.Omega.{arith}
-use lib.ListN.{length, take, drop, length-take, length-drop, take-append-drop}
-use lib.Seq.{take-add}
+use lib.ListN.{length, drop, length-take, length-drop}
 use Rattle.wire.specs.Bytes.{Bytes}
-use Rattle.wire.specs.Le.{leBytes, leAt, u16At, u32At}
-use Rattle.wire.specs.Record.{headBytes, recordBytes}
 use Rattle.wire.proofs.Numbers.{AllBytes}
-use Rattle.token.specs.Token.{Token}
 use Rattle.token.specs.Table.{sizeOf, tokenOf, encodeTokens}
 use Rattle.schema.specs.Limits.{Each}
 use Rattle.schema.specs.Table.{recordsOf, isFramed}

@@ -1,20 +1,19 @@
 -- Parts of a payload that code walks or tests: indices compared, a count and its paragraphs.
-use mathlib.Core.Path.{_≡_, refl, sym, ap, _∙_}
+use mathlib.Core.Path.{_≡_, sym, _∙_}
 use mathlib.Core.Bool.{Bool, true, false, not, _&&_}
-use mathlib.Core.List.{List, [], _∷_}
-use Prim.Native.Nat.{ℕ, zero, suc, _+_, _-_, _/_, _%_, _≤_, _<_}
-use native.Mathlib.Nat.{add-zero, zero-add}
+use mathlib.Core.List.{[]}
+use Prim.Native.Nat.{ℕ, suc, _+_, _-_, _/_, _%_, _≤_, _<_}
 use native.Mathlib.Omega.{arith}
-use borrow.Author.Tests.{leb-true, lt-ltb, le-ltb, le-leb, eq-eqb, not-true, not-false}
-use lib.Dec.{leb, ltb, eqb}
+use borrow.Author.Tests.{lt-ltb, le-ltb, le-leb, eq-eqb, not-true, not-false}
+use lib.Dec.{ltb, eqb}
 use lib.ListN.{length, take, drop, length-take, length-drop, drop-of-length-le}
 use lib.Seq.{drop-drop}
 use Rattle.wire.specs.Bytes.{Bytes}
 use Rattle.wire.specs.Le.{leAt, u16At, u64At}
 use Rattle.token.proofs.Laws.{part-from}
-use Rattle.token.specs.Payload.{isComment, isParagraph, areParagraphs, paragraphOf, afterParagraph, paragraphsIn, paragraphsOf}
-use Rattle.schema.specs.Order.{isChainAfter, isChain}
-use Rattle.schema.specs.Payload.{isSized, indicesIn, indicesOf, isDeleted, isCounted}
+use Rattle.token.specs.Payload.{isComment, areParagraphs, paragraphsOf}
+use Rattle.schema.specs.Order.{isChainAfter}
+use Rattle.schema.specs.Payload.{indicesIn, indicesOf, isDeleted, isCounted}
 
 -- the indices of p up to `at` ascend, `last` being the last of them; r is whether all do
 pub record Ascending (p : Bytes) (last at : ℕ) (r : Bool) : Type 0 where

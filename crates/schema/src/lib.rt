@@ -1,15 +1,14 @@
 // Schema tables: the check of document 01 (R9), and the walk over a table that passed it.
 ghost use mathlib.Core.Path.{_≡_};
-ghost use mathlib.Core.Bool.{true, _||_};
+ghost use mathlib.Core.Bool.{true};
 ghost use Prim.Native.Nat.{_+_, _≤_, _<_};
-ghost use lib.Dec.{eqb};
 ghost use lib.ListN.{length};
 ghost use Rattle.identifier.specs.Byte.{classOf};
 ghost use Rattle.identifier.specs.Table.{table, Tables};
 ghost use Rattle.identifier.specs.Order.{isBefore};
 ghost use Rattle.token.specs.Kind.{isPlain};
 ghost use Rattle.schema.specs.Payload.{isSized, nameOf, afterName, isNamed, isImport, isCounted, isDeclaration, isField, isDeleted, isPlainType, isCustom, isTypePayload, isPayload};
-ghost use Rattle.schema.specs.Table.{isOutside, isImporting, isInside, isType, mayFollow, rowAfter, isRight, isLater, isSchemaTable};
+ghost use Rattle.schema.specs.Table.{isOutside, isImporting, isType, mayFollow, rowAfter, isRight, isLater, isSchemaTable};
 ghost use Rattle.schema.specs.Checked.{checked};
 ghost use Rattle.schema.specs.Walk.{kindAt, startAt, endAt, nextAt, payloadAt, WholeAt};
 use identifier::Order;
@@ -50,7 +49,7 @@ fn is_named(class: &[u8; 256], p: &[u8]) -> bool
     if !is_sized(p) {
         return false;
     }
-    identifier::is_name(class, name_of(p))
+    identifier::tables::is_name(class, name_of(p))
 }
 
 fn is_import(class: &[u8; 256], p: &[u8]) -> bool
@@ -153,12 +152,12 @@ fn is_custom(class: &[u8; 256], p: &[u8]) -> bool
         return false;
     }
     if wire::u16_at(p, 0) == 0 {
-        return identifier::is_name(class, after_name(p));
+        return identifier::tables::is_name(class, after_name(p));
     }
-    if !identifier::is_name(class, name_of(p)) {
+    if !identifier::tables::is_name(class, name_of(p)) {
         return false;
     }
-    identifier::is_name(class, after_name(p))
+    identifier::tables::is_name(class, after_name(p))
 }
 
 fn is_type_payload(class: &[u8; 256], kind: u16, p: &[u8]) -> bool
@@ -363,9 +362,9 @@ pub fn check(t: &[u8]) -> Checked
     if 131072 < t.len() {
         return Checked::Refused(1);
     }
-    let class = identifier::class_table();
-    let lower = identifier::lower_table();
-    let upper = identifier::upper_table();
+    let class = identifier::tables::class_table();
+    let lower = identifier::tables::lower_table();
+    let upper = identifier::tables::upper_table();
     if is_table(&class, &lower, &upper, t) {
         return Checked::Fine;
     }

@@ -1,5 +1,5 @@
 use mathlib.Core.Path.{_≡_}
-use mathlib.Core.Bool.{true, _&&_}
+use mathlib.Core.Bool.{true}
 use denote.Ref.{now}
 use lib.Dec.{eqb}
 use borrow.Author.Tests.{eqb-true}

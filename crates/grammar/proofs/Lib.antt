@@ -1,0 +1,18 @@
+-- The theorems of the grammar. Demand3 holds the statements; the others prove them, rule by rule.
+pub mod Demand3
+pub mod Rules
+pub mod Eats
+pub mod Types
+pub mod Fields
+pub mod Declarations
+pub mod Imports
+pub mod Conditions
+pub mod Opening
+pub mod Schemas
+pub mod Outcomes
+pub mod Left
+pub mod Fuel
+pub mod Count
+pub mod Sorting
+pub mod Ranges
+pub mod Examples

@@ -1,0 +1,1 @@
+// The grammar and what reading answers: definitions in specs/, theorems in proofs/. No code.
