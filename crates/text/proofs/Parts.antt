@@ -2,6 +2,7 @@
 use Prim.Native.Nat.{ℕ, _-_, _%_, _≤_}
 use mathlib.Core.Path.{_≡_, refl}
 use mathlib.Core.Bool.{Bool, true, false, _&&_, _||_}
+use mathlib.Core.List.{[], _∷_}
 use native.Mathlib.Omega.{arith}
 use borrow.Author.Tests.{leb-true, eqb-true}
 use lib.Dec.{leb, eqb}
@@ -10,14 +11,25 @@ use lib.Seq.{take-all}
 use Rattle.wire.specs.Bytes.{Bytes}
 use Rattle.wire.specs.Le.{u16At}
 use Rattle.identifier.specs.Name.{isName}
-use Rattle.token.specs.Payload.{areParagraphs, paragraphOf}
+use Rattle.token.specs.Payload.{areParagraphs, isComment, paragraphOf, paragraphsOf}
 use Rattle.schema.specs.Payload.{isSized, isNamed, nameOf, afterName, isImport, isCounted, isDeclaration, isField, isDeleted, isPlainType, isCustom}
 use Rattle.schema.proofs.Records.{both}
 use Rattle.schema.proofs.Payloads.{name-short}
+use Rattle.text.specs.Text.{isEmpty}
 
 -- a part that runs to the end
 pub tail-part : (p : Bytes) (n : ℕ) → take (length p - n) (drop n p) ≡ drop n p
 tail-part p n = take-all (length p - n) (drop n p) (omega (arith, length-drop n p))
+
+-- a comment has a paragraph
+pub record CommentParts (p : Bytes) : Type 0 where
+  pub paragraphs : areParagraphs 32 p ≡ true
+  pub some : isEmpty (paragraphsOf p) ≡ false
+
+pub comment-parts : (p : Bytes) → isComment p ≡ true → CommentParts p
+unfolding isComment paragraphsOf
+comment-parts [] e = let z : _≡_ {A = ℕ} 0 1 = cc in absurd (omega arith)
+comment-parts (b ∷ p) e = record { paragraphs = both (leb 1 (length (b ∷ p))) _ e .1; some = refl }
 
 -- a name and a comment
 pub record HeadParts (q : Bytes) : Type 0 where

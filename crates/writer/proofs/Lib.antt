@@ -3,3 +3,4 @@ pub mod Types
 pub mod Fields
 pub mod Declarations
 pub mod Imports
+pub mod Answers

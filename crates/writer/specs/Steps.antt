@@ -9,10 +9,10 @@ use lib.ListN.{length}
 use Rattle.wire.specs.Bytes.{Bytes, bytes}
 use Rattle.wire.specs.Put.{Wrote}
 use Rattle.schema.specs.Kind.{sField}
-use Rattle.schema.specs.Table.{isInside, isImporting, isOutside}
-use Rattle.schema.specs.Decode.{importsOf, fieldsOf, deletedOf, declarationsOf}
+use Rattle.schema.specs.Table.{recordsOf, isInside, isImporting, isOutside}
+use Rattle.schema.specs.Decode.{importsOf, fieldsOf, deletedOf, declarationsOf, schemaOf}
 use Rattle.schema.specs.Walk.{recordsFrom, kindAt, Stands}
-use Rattle.text.specs.Text.{isEmpty, importsText, fieldsText, deletedText, declarationText}
+use Rattle.text.specs.Text.{isEmpty, openingText, importsText, fieldsText, deletedText, declarationText}
 use Rattle.writer.specs.Parts.{declarationAt}
 
 -- a declaration begins here, or the table ends
@@ -57,3 +57,10 @@ pub record Imported (t : Bytes) (at : ℕ) (o : Bytes) (to : ℕ) (o′ : Bytes)
   pub outside : Outside t next
   pub some : isEmpty (importsOf (recordsFrom t at)) ≡ eqb next at
   pub later : declarationsOf (recordsFrom t at) ≡ declarationsOf (recordsFrom t next)
+
+-- the schema comment, where there is one
+pub record Commented (t : Bytes) (o : Bytes) (to : ℕ) (o′ : Bytes) (next to′ : ℕ) : Type 0 where
+  pub wrote : Wrote o to (openingText (schemaOf (recordsOf t))) o′ to′
+  pub opened : Opened t next
+  pub imports : importsOf (recordsOf t) ≡ importsOf (recordsFrom t next)
+  pub later : declarationsOf (recordsOf t) ≡ declarationsOf (recordsFrom t next)

@@ -1,7 +1,6 @@
 -- Document 01, "Numbers that stop a call". Writing: R1, R9, R8, each with the offset 0; else the length of the text, and the text at the buffer's
 -- start. A refusal changes no byte.
-use Prim.Native.Nat.{ℕ, _≤_}
-use mathlib.Core.Bool.{true}
+use Prim.Native.Nat.{ℕ}
 use mathlib.Core.Path.{_≡_}
 use mathlib.Core.Option.{Option, none, some}
 use lib.Dec.{leb, ltb}
@@ -10,8 +9,7 @@ use Rattle.wire.specs.Bytes.{Bytes}
 use Rattle.wire.specs.Pick.{pick}
 use Rattle.wire.specs.Put.{laid}
 use Rattle.schema.specs.Ast.{Schema}
-use Rattle.schema.specs.Decode.{schemaOf, decodeSchema}
-use Rattle.schema.specs.Table.{recordsOf, isSchemaTable}
+use Rattle.schema.specs.Decode.{decodeSchema}
 use Rattle.text.specs.Text.{textOf}
 use Rattle.writer.specs.declared.Written.{Written}
 use Rattle.writer.specs.declared.Written.the-variants.{Refused, Text}
@@ -29,9 +27,3 @@ leftBy o (some s) = laid o (textOf s)
 pub record Writes (t o o′ : Bytes) (r : Written) : Type 0 where
   pub answer : r ≡ pick (ltb 131072 (length t)) (Refused 1 0) (answerTo (length o) (decodeSchema t))
   pub buffer : o′ ≡ pick (ltb 131072 (length t)) o (leftBy o (decodeSchema t))
-
--- what the check has shown of a table that it let pass
-pub record Passed (t : Bytes) : Type 0 where
-  pub small : length t ≤ 131072
-  pub right : isSchemaTable t ≡ true
-  pub decodes : decodeSchema t ≡ some (schemaOf (recordsOf t))

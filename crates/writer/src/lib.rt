@@ -5,12 +5,16 @@ ghost use Prim.Native.Nat.{_+_, _*_, _<_};
 ghost use lib.ListN.{length};
 ghost use Rattle.wire.specs.Put.{Wrote};
 ghost use Rattle.schema.specs.Payload.{isField};
-ghost use Rattle.schema.specs.Table.{isInside, isType};
-ghost use Rattle.schema.specs.Decode.{declarationsOf};
+ghost use Rattle.schema.specs.Table.{recordsOf, isInside, isType, isSchemaTable};
+ghost use Rattle.schema.specs.Decode.{declarationsOf, schemaOf};
+ghost use Rattle.schema.specs.Checked.{checked};
+ghost use Rattle.schema.specs.declared.Checked.the-variants.{Fine};
 ghost use Rattle.schema.specs.Walk.{recordsFrom, Stands};
-ghost use Rattle.text.specs.Text.{typeText, isUnit, fieldType, declarationsText};
+ghost use Rattle.text.specs.Text.{typeText, isUnit, fieldType, declarationsText, textOf};
 ghost use Rattle.writer.specs.Parts.{typeAt, depthAt, isBase, baseText, fieldFrom, isCommented};
-ghost use Rattle.writer.specs.Steps.{Outside, Opened, Fielded, Fields, Ended, Declared, Imported};
+ghost use Rattle.writer.specs.Written.{Writes};
+ghost use Rattle.writer.specs.Steps.{Outside, Opened, Fielded, Fields, Ended, Declared, Imported, Commented};
+use schema::Checked;
 use schema::kind;
 
 // The place of the type inside all arrays of a type.
@@ -189,4 +193,60 @@ fn put_imports(out: &mut [u8], to: usize, t: &[u8], from: usize) -> Walk
         a = text::put_import(out, a, schema::name_of(p), schema::after_name(p));
     }
     Walk { at, to: a }
+}
+
+// The schema comment, where there is one, parted from what follows.
+fn put_opening(out: &mut [u8], to: usize, t: &[u8]) -> Walk
+    requires { ⌜ isSchemaTable (now t) ≡ true ⌝ }
+    ensures { λ r. ⌜ Commented (now (t .entry)) (now (out .entry)) to (now (out .exit)) (r .at) (r .to) ⌝ }
+{
+    if 0 < t.len() {
+        if schema::kind_at(t, 0) == kind::COMMENT {
+            let next = schema::next_at(t, 0);
+            let a = text::put_comment(out, to, b"", schema::payload_at(t, 0));
+            let b = text::put_blank(out, a, next < t.len());
+            return Walk { at: next, to: b };
+        }
+    }
+    Walk { at: 0, to }
+}
+
+fn put_schema(out: &mut [u8], at: usize, t: &[u8]) -> usize
+    requires { ⌜ isSchemaTable (now t) ≡ true ⌝ }
+    ensures { λ r. ⌜ Wrote (now (out .entry)) at (textOf (schemaOf (recordsOf (now (t .entry))))) (now (out .exit)) r ⌝ }
+{
+    let w = put_opening(out, at, t);
+    let first = w.at;
+    let a = w.to;
+    let v = put_imports(out, a, t, first);
+    let next = v.at;
+    let b = v.to;
+    put_declarations(out, b, t, next, next != first)
+}
+
+// A refusal's number and the offset 0, or the length of the text.
+pub enum Written {
+    Refused(u16, usize),
+    Text(usize),
+}
+
+fn write_table(t: &[u8], out: &mut [u8]) -> Written
+    requires { ⌜ checked (now t) ≡ Fine ⌝ }
+    ensures { λ r. ⌜ Writes (now (t .entry)) (now (out .entry)) (now (out .exit)) r ⌝ }
+{
+    let need = put_schema(&mut out[..0], 0, t);
+    if out.len() < need {
+        return Written::Refused(8, 0);
+    }
+    Written::Text(put_schema(out, 0, t))
+}
+
+// The canonical text of a schema table, at the start of the buffer.
+pub fn write(t: &[u8], out: &mut [u8]) -> Written
+    ensures { λ r. ⌜ Writes (now (t .entry)) (now (out .entry)) (now (out .exit)) r ⌝ }
+{
+    match schema::check(t) {
+        Checked::Refused(number) => Written::Refused(number, 0),
+        Checked::Fine => write_table(t, out),
+    }
 }
