@@ -108,7 +108,7 @@ import-count before i =
       length-append (pick (isNameless i) (a ∷ []) []) (pick (anyOf (sameImport i) before) (b ∷ []) []),
     )
 
-imports-count : (k end : ℕ) (before : List ImportTree) (ts : List Token)
+pub imports-count : (k end : ℕ) (before : List ImportTree) (ts : List Token)
     → length (parseImports k end before ts .errors) + length (parseImports k end before ts .rest) ≤ length ts
 imports-count zero end before ts = omega arith
 imports-count (suc k) end before [] = omega arith
@@ -133,7 +133,7 @@ imports-count (suc k) end before (t ∷ ts) = go (eqb (t .kind) kImport) (parseI
         let s : length r ≤ length ts = rw p at (import-left t (length ts) ts (omega arith)) in
         rw (e, p, parseImports) (omega (arith, ih before r))
 
-opening-count : (ts : List Token) → length (parseOpening ts .rest) ≤ length ts
+pub opening-count : (ts : List Token) → length (parseOpening ts .rest) ≤ length ts
 opening-count [] = omega arith
 opening-count (t ∷ ts) = go (isOpening (t ∷ ts)) refl
   where

@@ -1,0 +1,3 @@
+-- What judging a table promises.
+pub mod Judges
+pub mod Places
