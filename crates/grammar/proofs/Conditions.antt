@@ -8,13 +8,13 @@ use mathlib.Core.Logic.{_⊎_, inl, inr}
 use borrow.Author.Tests.{eqb-true, eq-eqb}
 use Rattle.wire.specs.Bytes.{Bytes}
 use Rattle.wire.specs.Pick.{pick}
+use Rattle.identifier.proofs.Total.{same-snake, snake-same}
 use Rattle.token.specs.Token.{Token}
 use Rattle.grammar.specs.Tree.{All, DeletedPart, DeclarationTree, ImportTree, SchemaTree}
 use Rattle.grammar.specs.Meaning.{numberOf, deletedOf, isNameless, nameOf, importOf}
 use Rattle.grammar.specs.Error.{Error, errorOver}
 use Rattle.grammar.specs.Condition.{Distinct, anyOf, Named, keyOf, DeletedOnce, Good, sameImport, sameIndex, importErrors, indexErrors, importsErrors, deletedErrors, declarationsErrors, conditionErrors}
 use Rattle.grammar.proofs.Rules.{cons≢nil, both-nil}
-use Rattle.grammar.proofs.NameOrder.{same-name, name-same}
 
 -- each of ks differs from those before it and from those of seen
 pub record New {K : Type 0} (seen ks : List K) : Type 0 where
@@ -50,7 +50,8 @@ module _ {A K : Type 0} (key : A → K) (same : A → A → Bool) (same-key : (x
   none-same x [] h m = List·Memᴰ·not-nil m
   none-same x (y ∷ ys) h m = go (same x y) refl (List·Memᴰ·cases-cons m) (none-same x ys)
     where
-      go : (b : Bool) → same x y ≡ b → (key x ≡ key y) ⊎ List·Memᴰ (key x) (map key ys) → (anyOf (same x) ys ≡ false → ¬ (List·Memᴰ (key x) (map key ys))) → ⊥
+      go : (b : Bool) → same x y ≡ b → (key x ≡ key y) ⊎ List·Memᴰ (key x) (map key ys)
+          → (anyOf (same x) ys ≡ false → ¬ (List·Memᴰ (key x) (map key ys))) → ⊥
       go true e s ih = true≢false (rw e at h)
       go false e (inl p) ih = true≢false (sym (key-same x y p) ∙ e)
       go false e (inr n) ih = ih (rw e at h) n
@@ -111,10 +112,10 @@ declarations-back (d ∷ ds) g = rw (deleted-back (d .deleted) (g .0)) (declarat
 
 -- import names
 import-key : (i j : ImportTree) → sameImport i j ≡ true → keyOf i ≡ keyOf j
-import-key i j e = same-name (nameOf i) (nameOf j) e
+import-key i j e = same-snake (nameOf i) (nameOf j) e
 
 key-import : (i j : ImportTree) → keyOf i ≡ keyOf j → sameImport i j ≡ true
-key-import i j e = name-same (nameOf i) (nameOf j) e
+key-import i j e = snake-same (nameOf i) (nameOf j) e
 
 imports-there : (before is : List ImportTree) → importsErrors before is ≡ [] → All Named is × New (map keyOf before) (map keyOf is)
 imports-there before [] h = (tt, new-nil (map keyOf before))

@@ -6,7 +6,6 @@ pub mod Types
 pub mod Fields
 pub mod Declarations
 pub mod Imports
-pub mod NameOrder
 pub mod Conditions
 pub mod Opening
 pub mod Schemas

@@ -68,3 +68,6 @@ module _ {bytes : Bytes} {len : ℕ} {form : Bytes} (h : IsForm bytes len form) 
 
   pub inside : len ≤ length bytes
   inside = rw (h .size, h .filled, length-append) (omega arith)
+
+  pub counted : len ≡ length (take len bytes)
+  counted = h .size ∙ ap length (sym front)

@@ -7,9 +7,12 @@ use native.Mathlib.Omega.{arith}
 use lib.ListN.{length, length-append}
 use Rattle.wire.specs.Bytes.{Bytes}
 use Rattle.identifier.specs.Byte.{isUpper, isBreak}
+use Rattle.identifier.specs.Name.{all}
 use Rattle.identifier.specs.Words.{wordsOf}
-use Rattle.identifier.specs.Forms.{joined, laterWords}
+use Rattle.identifier.specs.Forms.{low, barLow, joined, laterWords, snakeOf}
 use Rattle.identifier.specs.Left.{inWord, firstBy, laterBy}
+use Rattle.identifier.proofs.Bytes.{upper-no-break}
+use Rattle.identifier.proofs.Good.{and-inv}
 use Rattle.identifier.proofs.Words.{words-break, joined-begin, later-begin, in-break, in-capital, in-plain}
 
 module _ (g : ℕ → Bytes) (few : (b : ℕ) → length (g b) ≤ 2) where
@@ -52,3 +55,17 @@ form-short up bar = joined-short (laterBy bar) (few bar) (firstBy up) (one up)
     few : (r : Bool) (b : ℕ) → length (laterBy r b) ≤ 2
     few true b = omega arith
     few false b = omega arith
+
+-- a name of capitals: each begins a word
+in-capitals : (bs : Bytes) → all isUpper bs ≡ true → length (inWord barLow bs) ≡ 2 * length bs
+in-capitals [] e = refl
+in-capitals (b ∷ bs) e =
+    let i = and-inv e in
+    rw (in-capital b bs barLow (upper-no-break b (i .0)) (i .0)) (omega (arith, in-capitals bs (i .1)))
+
+pub capitals-long : (name : Bytes) → all isUpper name ≡ true → length (snakeOf name) ≡ 2 * length name - 1
+unfolding snakeOf
+capitals-long [] e = refl
+capitals-long (b ∷ bs) e =
+    let i = and-inv e in
+    rw (joined-begin b bs barLow low (upper-no-break b (i .0))) (omega (arith, in-capitals bs (i .1)))

@@ -8,10 +8,11 @@ ghost use lib.ListN.{length, getD, take};
 ghost use Rattle.wire.specs.Pick.{pick};
 ghost use Rattle.wire.specs.Put.{Wrote};
 ghost use Rattle.identifier.specs.Table.{table, Tables};
+ghost use Rattle.identifier.specs.Name.{isName};
 ghost use Rattle.identifier.specs.Left.{firstBy, laterBy, Follows, gives};
 ghost use Rattle.identifier.specs.Words.{wordsOf};
 ghost use Rattle.identifier.specs.Forms.{joined, snakeOf, camelOf, pascalOf, IsForm};
-ghost use Rattle.identifier.specs.Order.{nameOrder};
+ghost use Rattle.identifier.specs.Order.{nameOrder, sameName};
 
 const CLASS: [u8; 256] = *b"\
     \x00\x00\x00\x00\x00\x00\x00\x00\x00\x00\x00\x00\x00\x00\x00\x00\
@@ -126,6 +127,28 @@ pub fn is_upper(class: &[u8; 256], b: u8) -> bool
     ensures { λ r. ⌜ r ≡ isUpper b ⌝ }
 {
     class_in(class, b) == 8
+}
+
+// Whether these are 1 to 128 printable bytes.
+pub fn is_name(class: &[u8; 256], name: &[u8]) -> bool
+    requires { ⌜ now class ≡ table classOf ⌝ }
+    ensures { λ r. ⌜ r ≡ isName (now (name .entry)) ⌝ }
+{
+    if name.len() < 1 {
+        return false;
+    }
+    if 128 < name.len() {
+        return false;
+    }
+    let mut i: usize = 0;
+    while i < name.len() {
+        if is_printable(class, name[i]) {
+            i += 1;
+        } else {
+            return false;
+        }
+    }
+    true
 }
 
 // The next byte of a form: `code` is 0 at its end and else one more than the byte; `at` and `state` are where the rest of it begins.
@@ -303,13 +326,6 @@ pub fn put_snake(out: &mut [u8], at: usize, name: &[u8]) -> usize
     put_form(out, at, snake(name))
 }
 
-pub fn put_camel(out: &mut [u8], at: usize, name: &[u8]) -> usize
-    requires { ⌜ length (now name) ≤ 128 ⌝ }
-    ensures { λ r. ⌜ Wrote (now (out .entry)) at (camelOf (now (name .entry))) (now (out .exit)) r ⌝ }
-{
-    put_form(out, at, camel(name))
-}
-
 pub fn put_pascal(out: &mut [u8], at: usize, name: &[u8]) -> usize
     requires { ⌜ length (now name) ≤ 128 ⌝ }
     ensures { λ r. ⌜ Wrote (now (out .entry)) at (pascalOf (now (name .entry))) (now (out .exit)) r ⌝ }
@@ -365,4 +381,14 @@ pub fn compare(a: &[u8], b: &[u8]) -> Order
     let lower = lower_table();
     let upper = upper_table();
     compare_in(&class, &lower, &upper, a, b)
+}
+
+pub fn same(a: &[u8], b: &[u8]) -> bool
+    ensures { λ r. ⌜ r ≡ sameName (now (a .entry)) (now (b .entry)) ⌝ }
+{
+    match compare(a, b) {
+        Order::Less => false,
+        Order::Equal => true,
+        Order::Greater => false,
+    }
 }

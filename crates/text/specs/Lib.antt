@@ -1,3 +1,4 @@
 -- The definition of the canonical text.
 pub mod Wrap
 pub mod Text
+pub mod Types

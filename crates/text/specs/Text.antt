@@ -1,7 +1,7 @@
 -- Document 01, "Canonical text": what schema.rs writes of a schema, in its order. Each line ends in a newline.
 use Prim.Native.Nat.{ℕ, _-_}
 use mathlib.Core.Bool.{Bool, true, false, _||_, _&&_, not}
-use mathlib.Core.Option.{none, some}
+use mathlib.Core.Option.{Option, none, some}
 use mathlib.Core.List.{List, [], _∷_, _++_, flatMap}
 use lib.Dec.{eqb}
 use lib.ListN.{length}
@@ -40,20 +40,29 @@ lineText indentation line = indentation ++ bytes "# " ++ line ++ newline
 unfoldable pub paragraphText : Bytes → Bytes → Bytes
 paragraphText indentation paragraph = flatMap (lineText indentation) (wrap (widthAfter indentation) paragraph)
 
--- a paragraph that isn't the first stands after a line of `#`
-unfoldable pub laterParagraph : Bytes → Bytes → Bytes
-laterParagraph indentation paragraph = indentation ++ bytes "#\n" ++ paragraphText indentation paragraph
+-- a line of `#` stands before each paragraph that comes later than another
+unfoldable pub mark : Bytes → Bool → Bytes
+mark indentation later = pick later (indentation ++ bytes "#\n") []
+
+abbrev pub paragraphsText : Bytes → Bool → List Bytes → Bytes
+paragraphsText indentation later [] = []
+paragraphsText indentation later (p ∷ ps) = mark indentation later ++ paragraphText indentation p ++ paragraphsText indentation true ps
 
 abbrev pub commentText : Bytes → List Bytes → Bytes
-commentText indentation [] = []
-commentText indentation (p ∷ ps) = paragraphText indentation p ++ flatMap (laterParagraph indentation) ps
+commentText indentation paragraphs = paragraphsText indentation false paragraphs
 
--- `as` unless there is an inferred name and it equals the import's; a path without a stem has the empty one
-unfoldable pub isInferred : Import → Bool
-isInferred i = pick (eqb (length (stemOf (i .path))) 0) false (sameName (stemOf (i .path)) (i .name))
+-- there is an inferred name and it equals the import's; a path without a stem has the empty one
+unfoldable pub isInferred : Bytes → Bytes → Bool
+isInferred name path = pick (eqb (length (stemOf path)) 0) false (sameName (stemOf path) name)
 
-unfoldable pub importText : Import → Bytes
-importText i = bytes "import '" ++ i .path ++ bytes "'" ++ pick (isInferred i) [] (bytes " as " ++ snakeOf (i .name)) ++ newline
+unfoldable pub importText : Bytes → Bytes → Bytes
+importText name path =
+    pick (isInferred name path) (bytes "import '" ++ path ++ bytes "'\n")
+    (bytes "import '" ++ path ++ bytes "' as " ++ snakeOf name ++ newline)
+
+abbrev pub importsText : List Import → Bytes
+importsText [] = []
+importsText (i ∷ is) = importText (i .name) (i .path) ++ importsText is
 
 unfoldable pub plainText : ℕ → Bytes
 plainText kind =
@@ -62,44 +71,45 @@ plainText kind =
     (pick (eqb kind kF64) (bytes "F64")
     (pick (eqb kind kS64) (bytes "S64") (pick (eqb kind kString) (bytes "String") (pick (eqb kind kU64) (bytes "U64") (bytes "Unit"))))))
 
+abbrev pub customText : Option Bytes → Bytes → Bytes
+customText none name = pascalOf name
+customText (some import) name = snakeOf import ++ bytes "." ++ pascalOf name
+
 abbrev pub typeText : TypeVariant → Bytes
 typeText (array range inner) = bytes "[" ++ typeText inner ++ bytes "]"
 typeText (plain range kind) = plainText kind
-typeText (custom range none name) = pascalOf name
-typeText (custom range (some «import») name) = snakeOf «import» ++ bytes "." ++ pascalOf name
+typeText (custom range import name) = customText import name
 
 abbrev pub isUnit : TypeVariant → Bool
 isUnit (array range inner) = false
 isUnit (plain range kind) = eqb kind kUnit
-isUnit (custom range «import» name) = false
+isUnit (custom range import name) = false
 
 abbrev pub ruleText : Rule → Bytes
 ruleText required = []
 ruleText asymmetric = bytes "asymmetric "
 ruleText optional = bytes "optional "
 
+-- a field's line has three parts
+unfoldable pub fieldName : List Bytes → Rule → Bytes → Bytes
+fieldName comment rule name = commentText four comment ++ four ++ ruleText rule ++ snakeOf name
+
+unfoldable pub fieldType : TypeVariant → Bytes
+fieldType type = pick (isUnit type) [] (bytes ": " ++ typeText type)
+
+unfoldable pub fieldIndex : ℕ → Bytes
+fieldIndex index = bytes " = " ++ decimal index ++ newline
+
 unfoldable pub fieldText : Field → Bytes
-fieldText f =
-    commentText four (f .comment)
-    ++ four
-    ++ ruleText (f .rule)
-    ++ snakeOf (f .name)
-    ++ pick (isUnit (f .type)) [] (bytes ": " ++ typeText (f .type))
-    ++ bytes " = "
-    ++ decimal (f .index)
-    ++ newline
+fieldText f = fieldName (f .comment) (f .rule) (f .name) ++ fieldType (f .type) ++ fieldIndex (f .index)
 
 abbrev pub hasComment : Field → Bool
 hasComment f = not (isEmpty (f .comment))
 
--- the fields after one that has a comment or has none: a blank line stands beside each that has
-abbrev pub laterFields : Bool → List Field → Bytes
-laterFields commented [] = []
-laterFields commented (f ∷ fs) = blank (commented || hasComment f) ++ fieldText f ++ laterFields (hasComment f) fs
-
-abbrev pub fieldsText : List Field → Bytes
-fieldsText [] = []
-fieldsText (f ∷ fs) = fieldText f ++ laterFields (hasComment f) fs
+-- a blank line stands between two fields of which one has a comment
+abbrev pub fieldsText : Bool → Bool → List Field → Bytes
+fieldsText later commented [] = []
+fieldsText later commented (f ∷ fs) = blank (later && (commented || hasComment f)) ++ fieldText f ++ fieldsText true (hasComment f) fs
 
 unfoldable pub indexText : ℕ → Bytes
 indexText n = bytes " " ++ decimal n
@@ -110,17 +120,16 @@ deletedText afterFields indices =
     pick (isEmpty indices) [] (blank afterFields ++ four ++ bytes "deleted" ++ flatMap indexText indices ++ newline)
 
 abbrev pub variantText : DeclarationVariant → Bytes
-variantText struct = bytes "struct"
-variantText choice = bytes "choice"
+variantText struct = bytes "struct "
+variantText choice = bytes "choice "
+
+unfoldable pub headText : List Bytes → DeclarationVariant → Bytes → Bytes
+headText comment variant name = commentText [] comment ++ variantText variant ++ pascalOf name ++ bytes " {\n"
 
 unfoldable pub declarationText : Declaration → Bytes
 declarationText d =
-    commentText [] (d .comment)
-    ++ variantText (d .variant)
-    ++ bytes " "
-    ++ pascalOf (d .name)
-    ++ bytes " {\n"
-    ++ fieldsText (d .fields)
+    headText (d .comment) (d .variant) (d .name)
+    ++ fieldsText false false (d .fields)
     ++ deletedText (not (isEmpty (d .fields))) (d .deleted)
     ++ bytes "}\n"
 
@@ -133,5 +142,5 @@ unfoldable pub textOf : Schema → Bytes
 textOf s =
     commentText [] (s .comment)
     ++ blank (not (isEmpty (s .comment)) && (not (isEmpty (s .imports)) || not (isEmpty (s .declarations))))
-    ++ flatMap importText (s .imports)
+    ++ importsText (s .imports)
     ++ declarationsText (not (isEmpty (s .imports))) (s .declarations)

@@ -3,7 +3,7 @@ use Prim.Native.Nat.{ℕ, _+_}
 use mathlib.Core.Bool.{true, false}
 use mathlib.Core.List.{List, [], _∷_, _++_}
 use lib.Dec.{eqb, leb}
-use lib.ListN.{length}
+use lib.ListN.{length, drop}
 use Rattle.wire.specs.Bytes.{Bytes}
 
 -- what stands before the first space, and what stands between the later ones
@@ -30,3 +30,7 @@ linesFrom width line (word ∷ words) =
 
 unfoldable pub wrap : ℕ → Bytes → List Bytes
 wrap width paragraph = linesFrom width (wordsOf paragraph .first) (wordsOf paragraph .later)
+
+-- where the word ends that begins at i
+unfoldable pub wordEnd : Bytes → ℕ → ℕ
+wordEnd s i = i + length (wordsOf (drop i s) .first)

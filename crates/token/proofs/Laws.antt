@@ -1,18 +1,18 @@
 -- The payload rules, byte by byte and paragraph by paragraph.
+use borrow.Author.Tests.{not-true, not-false}
 use Prim.Native.Nat.{ℕ, zero, suc, _+_, _-_, _≤_, _<_}
-use mathlib.Core.Path.{_≡_, refl, sym, ap, _∙_}
+use mathlib.Core.Path.{_≡_, refl, sym, _∙_}
 use mathlib.Core.Bool.{Bool, true, false, not, _&&_}
-use mathlib.Core.List.{List, [], _∷_}
+use mathlib.Core.List.{[], _∷_}
 use native.Mathlib.Omega.{arith}
 use native.Mathlib.Numerals.{add-one, sub-one}
-use borrow.Author.Tests.{not-true, not-false}
 use lib.Dec.{leb, eqb, leb·zero, leb·suc-zero, leb·suc-suc}
 use lib.ListN.{length, getD, take, drop, drop-of-length-le, length-drop}
 use lib.Seq.{drop-cons, drop-drop, take-all}
 use Rattle.wire.specs.Bytes.{Bytes}
 use Rattle.wire.specs.Le.{leAt, u16At}
 use Rattle.identifier.specs.Byte.{isPrintable}
-use Rattle.token.specs.Payload.{all, atLeast, isSpaced, isParagraph, paragraphOf, afterParagraph, areParagraphs, isComment}
+use Rattle.token.specs.Payload.{all, atLeast, isSpaced, isParagraph, paragraphOf, afterParagraph, areParagraphs}
 
 pub atLeast-length : (n : ℕ) (bs : Bytes) → atLeast n bs ≡ leb n (length bs)
 atLeast-length zero bs = sym (leb·zero (length bs))
@@ -56,12 +56,12 @@ module _ {p : Bytes} {gap : Bool} {i : ℕ} {r : Bool} (s : Spacing p gap i r) w
   pub spaced-end : length p ≤ i → not gap ≡ r
   spaced-end h = rw (drop-of-length-le p h) at (s .left)
 
-paragraphs-none : (n : ℕ) → areParagraphs n [] ≡ true
+pub paragraphs-none : (n : ℕ) → areParagraphs n [] ≡ true
 unfolding areParagraphs
 paragraphs-none zero = refl
 paragraphs-none (suc n) = refl
 
-paragraphs-step : (n : ℕ) (bs : Bytes) → (n ≡ 0 → ⊥) → 0 < length bs
+pub paragraphs-step : (n : ℕ) (bs : Bytes) → (n ≡ 0 → ⊥) → 0 < length bs
     → areParagraphs n bs ≡ (atLeast 2 bs && (atLeast (2 + u16At bs 0) bs && (isParagraph (paragraphOf bs) && areParagraphs (n - 1) (afterParagraph bs))))
 unfolding areParagraphs
 paragraphs-step zero bs e h = absurd (e refl)

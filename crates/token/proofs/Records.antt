@@ -1,27 +1,24 @@
 -- The check, record by record.
-use Prim.Native.Nat.{ℕ, zero, suc, _+_, _-_, _≤_, _<_}
-use mathlib.Core.Path.{_≡_, refl, sym, ap, _∙_}
-use mathlib.Core.Bool.{Bool, true, false, not, _&&_, and-eq-true-iff}
-use mathlib.Core.List.{List, [], _∷_}
-use native.Mathlib.Omega.{arith}
-use native.Mathlib.Numerals.{add-one, sub-one}
-use native.Mathlib.Nat.{zero-add, add-zero}
 use borrow.Author.Tests.{leb-true, ltb-false, not-false, lt-ltb, le-ltb}
-use lib.Dec.{leb, ltb, eqb}
-use lib.ListN.{length, getD, take, drop, drop-of-length-le, length-drop}
-use lib.Seq.{drop-cons, drop-drop}
+use Prim.Native.Nat.{ℕ, zero, suc, _+_, _-_, _≤_, _<_}
+use mathlib.Core.Path.{_≡_, refl, sym, _∙_}
+use mathlib.Core.Bool.{Bool, true, false, _&&_, and-eq-true-iff}
+use mathlib.Core.List.{[], _∷_}
+use native.Mathlib.Omega.{arith}
+use native.Mathlib.Numerals.{sub-one}
+use native.Mathlib.Nat.{zero-add, add-zero}
+use lib.Dec.{leb}
+use lib.ListN.{length, drop, drop-of-length-le, length-drop}
+use lib.Seq.{drop-drop}
 use Rattle.wire.specs.Bytes.{Bytes}
-use Rattle.wire.specs.Le.{leAt, u16At}
 use Rattle.wire.specs.Pick.{pick}
-use Rattle.identifier.specs.Byte.{within}
 use Rattle.token.specs.Token.{Token, endOf}
-use Rattle.token.specs.Payload.{isPayload}
 use Rattle.token.specs.Table.{sizeOf, tokenOf, isWhole, isOrdered, rowAfter, faultOf, Decoded, refused, tokens, addToken, decodeFrom, decode}
 use Rattle.token.specs.Fit.{Sound}
 use Rattle.token.specs.Checked.{answerOf, checked}
 use Rattle.token.specs.declared.Checked.{Checked}
 use Rattle.token.specs.declared.Checked.the-variants.{Refused, Fine}
-use Rattle.token.proofs.Laws.{atLeast-length, rest-step}
+use Rattle.token.proofs.Laws.{atLeast-length}
 
 pub whole-is : (bs : Bytes) → isWhole bs ≡ (leb 12 (length bs) && (leb 12 (sizeOf bs) && leb (sizeOf bs) (length bs)))
 unfolding isWhole
@@ -76,7 +73,7 @@ pub record Good (last row : ℕ) (bs : Bytes) : Type 0 where
   pub sound : Sound last row (tokenOf bs)
 
 -- both bounds of a test on two
-bounds : (a x b y : ℕ) → (leb a x && leb b y) ≡ true → (a ≤ x) × (b ≤ y)
+pub bounds : (a x b y : ℕ) → (leb a x && leb b y) ≡ true → (a ≤ x) × (b ≤ y)
 bounds a x b y e = let p = and-eq-true-iff (leb a x) (leb b y) .0 e in (leb-true a x (p .0), leb-true b y (p .1))
 
 pub good : (last row : ℕ) (bs : Bytes) → faultOf last row bs ≡ 0 → Good last row bs

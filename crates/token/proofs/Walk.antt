@@ -1,25 +1,26 @@
 -- Places and tokens: a step from place to place is the tail of the list of tokens, and keeps what the check has shown.
+use borrow.Author.Tests.{ltb-false, eqb-true}
 use Prim.Native.Nat.{ℕ, zero, suc, _+_, _-_, _≤_, _<_, max}
 use mathlib.Core.Path.{_≡_, refl, sym, ap, _∙_}
 use mathlib.Core.Bool.{Bool, true, false}
 use mathlib.Core.List.{List, [], _∷_}
 use native.Mathlib.Omega.{arith}
-use borrow.Author.Tests.{ltb-false, eqb-true}
+use native.Mathlib.Numerals.{sub-one}
 use lib.Dec.{ltb, eqb}
-use lib.ListN.{length, take, drop, drop-of-length-le, length-drop}
+use lib.ListN.{length, take, drop, length-drop}
 use lib.Seq.{drop-drop, length-take-le}
 use Rattle.wire.specs.Bytes.{Bytes}
 use Rattle.wire.specs.Le.{leNumber, leAt, u16At, u64At}
 use Rattle.wire.specs.Pick.{pick}
-use Rattle.token.specs.Kind.{kInteger}
+use Rattle.token.specs.Kind.{kInteger, kLeftSquare}
 use Rattle.token.specs.Payload.{isInteger, isPayload}
 use Rattle.token.specs.Token.{Token, endOf}
 use Rattle.token.specs.Table.{sizeOf, tokenOf, rowAfter, faultOf, Decoded, refused, tokens, addToken, decodeFrom, decode}
+use Rattle.token.specs.Fit.{Fit}
+use Rattle.token.specs.Fit.Fit.{none, more}
 use Rattle.token.specs.Checked.{answerOf, checked}
 use Rattle.token.specs.Places.{tokAt, nextAt, tokensIn, tokensFrom, Wf}
-use Rattle.token.specs.declared.Checked.{Checked}
 use Rattle.token.specs.declared.Checked.the-variants.{Refused, Fine}
-use Rattle.token.proofs.Laws.{rest-step}
 use Rattle.token.proofs.Records.{Fits, Good, good, decode-end, decode-full, decode-bad, decode-next}
 
 -- a number in a record, read from the table
@@ -52,8 +53,12 @@ module _ (t : Bytes) (at : ℕ) where
   unfolding tokensFrom
   tokens-end h = let z : length t - at ≡ 0 = omega arith in rw z
 
+  pub next-past : at + 12 ≤ nextAt t at
+  unfolding nextAt
+  next-past = omega arith
+
   pub tokens-step : at < length t → tokensFrom t at ≡ tokAt t at ∷ tokensFrom t (nextAt t at)
-  unfolding tokensFrom
+  unfolding tokensFrom nextAt
   tokens-step h =
       let l = length-drop at t in
       first (length t - at) (length t - nextAt t at) (drop at t) (omega arith) (omega arith) (omega arith) ∙ rw (drop-drop (max 12 (sizeOf (drop at t))) at t)
@@ -106,9 +111,9 @@ pub record Judged (t : Bytes) (n e : ℕ) : Type 0 where
   pub end : e ≡ endOf 0 (tokensFrom t 0)
   pub wf : Wf t 0
 
-small : (t : Bytes) (ts : List Token) → decode t ≡ tokens ts → (length t ≤ 65536) × (decodeFrom 4096 0 0 0 t ≡ tokens ts)
+pub decode-small : (t : Bytes) (ts : List Token) → decode t ≡ tokens ts → (length t ≤ 65536) × (decodeFrom 4096 0 0 0 t ≡ tokens ts)
 unfolding decode
-small t ts e = go (ltb 65536 (length t)) refl e
+decode-small t ts e = go (ltb 65536 (length t)) refl e
   where
     go : (b : Bool) → ltb 65536 (length t) ≡ b → pick b (refused 1 0) (decodeFrom 4096 0 0 0 t) ≡ tokens ts → (length t ≤ 65536) × (decodeFrom 4096 0 0 0 t ≡ tokens ts)
     go true q e = let z : _≡_ {A = ℕ} 0 1 = unfold pick in cc in absurd (omega arith)
@@ -117,13 +122,13 @@ small t ts e = go (ltb 65536 (length t)) refl e
 pub decode-judged : (t : Bytes) (ts : List Token) → decode t ≡ tokens ts → Judged t (length ts) (endOf 0 ts)
 unfolding tokensFrom
 decode-judged t ts e =
-    let s = small t ts e in
+    let s = decode-small t ts e in
     let k : ts ≡ tokensFrom t 0 = decoded (length t - 0) 4096 0 0 0 t ts (omega arith) (s .1) in
     record {
       decodes = rw (← k) e;
       count = rw (← k);
       end = rw (← k);
-      wf = record { small = s .0; inside = omega arith; left = 4096; few = omega arith; last = 0; row = 0; good = rw (← k) (s .1) };
+      wf = record { small = s .0; inside = omega arith; left = 4096; few = omega arith; last = 0; row = 0; shallow = omega arith; good = rw (← k) (s .1) };
     }
 
 pub fine : (t : Bytes) (n e : ℕ) → checked t ≡ Fine n e → Judged t n e
@@ -164,6 +169,7 @@ module _ {t : Bytes} {at : ℕ} (w : Wf t at) (h : at < length t) where
       record { head = g .head; tail = omega arith }
 
   pub next-is : nextAt t at ≡ at + sizeOf (drop at t)
+  unfolding nextAt
   next-is = ap (at +_) (step-is (wf-good .fits))
 
   pub wf-next : Wf t (nextAt t at)
@@ -178,6 +184,7 @@ module _ {t : Bytes} {at : ℕ} (w : Wf t at) (h : at < length t) where
         few = omega (arith, w .few);
         last = tokAt t at .end;
         row = rowAfter (w .row) (tokAt t at .kind);
+        shallow = wf-good .sound .shallow;
         good = rw (← r, e, ← drop-drop (sizeOf (drop at t)) at t) (first-of .next);
       }
 
@@ -201,3 +208,40 @@ module _ {t : Bytes} {at : ℕ} (w : Wf t at) (h : at < length t) where
 pub payload-part : (t : Bytes) (at : ℕ) → take (at + u16At t at - (at + 12)) (drop (at + 12) t) ≡ tokAt t at .payload
 unfolding tokenOf leAt
 payload-part t at = let z : at + u16At t at - (at + 12) ≡ u16At t at - 12 = omega arith in rw (z, drop-drop 12 at t)
+
+-- ---- the tokens of a checked table, as a list
+
+pub fit : (n at last row : ℕ) (bs : Bytes) (ts : List Token) → decodeFrom n at last row bs ≡ tokens ts → Fit n last row ts
+fit zero at last row [] ts e = let z = decode-end at last row 0 in let q : [] ≡ ts = cc in rw (← q) none
+fit (suc n) at last row [] ts e = let z = decode-end at last row (suc n) in let q : [] ≡ ts = cc in rw (← q) none
+fit zero at last row (b ∷ bs) ts e = let o = opened zero at last row (b ∷ bs) ts (omega arith) e in absurd (omega (arith, o .more))
+fit (suc n) at last row (b ∷ bs) ts e =
+    let o = opened (suc n) at last row (b ∷ bs) ts (omega arith) e in
+    rw (o .whole) (more (o .good .sound) (fit n _ _ _ (drop (sizeOf (b ∷ bs)) (b ∷ bs)) (o .rest) (rw sub-one at (o .next))))
+
+pub wf-fit : {t : Bytes} {at : ℕ} (w : Wf t at) → Fit (w .left) (w .last) (w .row) (tokensFrom t at)
+wf-fit {t} {at} w = fit (w .left) at (w .last) (w .row) (drop at t) (tokensFrom t at) (w .good)
+
+pub fit-length : {n last row : ℕ} {ts : List Token} → Fit n last row ts → length ts ≤ n
+fit-length none = omega arith
+fit-length (more s f) = let i = fit-length f in omega arith
+
+-- how many LeftSquares the tokens begin with
+abbrev pub squaresOf : List Token → ℕ
+squaresOf [] = 0
+squaresOf (t ∷ ts) = pick (eqb (t .kind) kLeftSquare) (squaresOf ts + 1) 0
+
+pub fit-squares : {n last row : ℕ} {ts : List Token} → Fit n last row ts → row ≤ 64 → row + squaresOf ts ≤ 64
+unfolding rowAfter
+fit-squares none h = omega arith
+fit-squares (more {row = row} {t} {ts} s f) h = go (eqb (t .kind) kLeftSquare) (fit-squares f (s .shallow))
+  where
+    go : (b : Bool) → pick b (row + 1) 0 + squaresOf ts ≤ 64 → row + pick b (squaresOf ts + 1) 0 ≤ 64
+    go true i = unfold pick in omega arith
+    go false i = unfold pick in omega arith
+
+pub wf-squares : {t : Bytes} {at : ℕ} → Wf t at → squaresOf (tokensFrom t at) ≤ 64
+wf-squares w = omega (arith, fit-squares (wf-fit w) (w .shallow))
+
+pub wf-few : {t : Bytes} {at : ℕ} → Wf t at → length (tokensFrom t at) ≤ 4096
+wf-few w = omega (arith, fit-length (wf-fit w), w .few)

@@ -1,6 +1,4 @@
 -- The check's answer: R1 to R7 as document 01 numbers them and the faulty record's offset, else how many tokens there are and where the last ends.
-use mathlib.Core.List.{List}
-use Prim.Native.Nat.{ℕ}
 use lib.ListN.{length}
 use Rattle.wire.specs.Bytes.{Bytes}
 use Rattle.token.specs.Token.{endOf}

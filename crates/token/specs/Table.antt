@@ -1,7 +1,7 @@
 -- Document 01, "Tables" and "Numbers that stop a call": what a token table decodes to. R1 first, then record by record R6, R2, R3, R4, R5, R7:
 -- the first faulty record decides, and its offset is told.
 use Prim.Native.Nat.{ℕ, zero, suc, _+_, _-_}
-use mathlib.Core.Bool.{Bool, true, false, not, _&&_}
+use mathlib.Core.Bool.{Bool, not, _&&_}
 use mathlib.Core.List.{List, [], _∷_, _++_}
 use lib.Dec.{eqb, leb, ltb}
 use lib.ListN.{length, take, drop}

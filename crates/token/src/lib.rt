@@ -1,18 +1,21 @@
 // Token tables: the check of document 01 (R1 to R7), and the walk over a table that passed it.
 ghost use mathlib.Core.Path.{_≡_};
 ghost use Prim.Native.Nat.{_+_, _≤_, _<_};
-ghost use mathlib.Core.Bool.{_&&_};
+ghost use mathlib.Core.Bool.{true, _&&_};
 ghost use lib.Dec.{leb};
 ghost use lib.ListN.{length, drop};
 ghost use Rattle.wire.specs.Le.{leNumber};
 ghost use Rattle.identifier.specs.Byte.{within, isPrintable};
 ghost use Rattle.token.specs.Kind.{kInteger};
-ghost use Rattle.token.specs.Payload.{isNameStart, isNameByte, isPathByte, isIdentifier, isPath, isParagraph, isComment, isPayload};
+ghost use Rattle.token.specs.Payload.{isNameStart, isNameByte, isPathByte, isIdentifier, isPath, isParagraph, isComment, isPayload, paragraphsOf};
 ghost use Rattle.token.specs.Table.{isWhole, rowAfter, faultOf};
 ghost use Rattle.token.specs.Checked.{checked};
 ghost use Rattle.token.specs.Places.{tokAt, nextAt, Wf};
 
 pub mod kind;
+
+// of a name or a path
+const LONGEST: usize = 128;
 
 fn is_name_start(b: u8) -> bool
     ensures { λ r. ⌜ r ≡ isNameStart b ⌝ }
@@ -45,7 +48,7 @@ fn is_identifier(p: &[u8]) -> bool
     if p.len() < 1 {
         return false;
     }
-    if 128 < p.len() {
+    if LONGEST < p.len() {
         return false;
     }
     if !is_name_start(p[0]) {
@@ -64,7 +67,7 @@ fn is_identifier(p: &[u8]) -> bool
 fn is_path(p: &[u8]) -> bool
     ensures { λ r. ⌜ r ≡ isPath (now (p .entry)) ⌝ }
 {
-    if 128 < p.len() {
+    if LONGEST < p.len() {
         return false;
     }
     let mut i = 0;
@@ -283,4 +286,18 @@ pub fn next_at(t: &[u8], at: usize) -> usize
     ensures { λ r. ⌜ r ≡ nextAt (now (t .entry)) at ⌝ }
 {
     at + wire::u16_at(t, at) as usize
+}
+
+// How many paragraphs a Comment's payload holds.
+pub fn paragraph_count(p: &[u8]) -> u16
+    requires { ⌜ isComment (now p) ≡ true ⌝ }
+    ensures { λ r. ⌜ r ≡ length (paragraphsOf (now (p .entry))) ⌝ }
+{
+    let mut count: u16 = 0;
+    let mut at = 0;
+    while at < p.len() {
+        count += 1;
+        at = at + 2 + wire::u16_at(p, at) as usize;
+    }
+    count
 }

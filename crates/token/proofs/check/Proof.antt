@@ -1,13 +1,13 @@
-use Rattle.token.specs.Table.{tokenOf, faultOf}
-use mathlib.Core.Path.{_≡_, sym, _∙_}
-use lib.ListN.{length, drop}
-use Rattle.token.proofs.Laws.{part-from}
-use Prim.Native.Nat.{_≤_, _-_}
+use borrow.Author.Needs.{needs}
+use Prim.Native.Nat.{_-_}
+use mathlib.Core.Path.{_≡_}
 use native.Mathlib.Omega.{arith}
 use denote.Ref.{now}
+use lib.ListN.{length, drop}
+use Rattle.token.specs.Table.{tokenOf, faultOf}
 use Rattle.token.specs.Checked.{checked}
+use Rattle.token.proofs.Laws.{part-from}
 use Rattle.token.proofs.Records.{Good, Checking, checking, checked-large, checked-end, checked-full, checked-bad, checked-good, checked-next}
-use borrow.Author.Needs.{needs}
 use Rattle.token.proofs.check.Statement.{statement}
 use Rattle.token.proofs.check.Tie as tie
 

@@ -1,12 +1,12 @@
 use borrow.Author.Tests.{not-false, le-ltb}
-use Rattle.wire.specs.Pick.{pick}
-use native.Mathlib.Omega.{arith}
+use borrow.Author.Needs.{needs}
 use mathlib.Core.Path.{sym, _∙_}
+use native.Mathlib.Omega.{arith}
+use denote.Ref.{now}
+use Rattle.wire.specs.Pick.{pick}
 use Rattle.wire.proofs.Choice.{choice}
 use Rattle.token.specs.Table.{tokenOf, isOrdered, faultOf}
 use Rattle.token.proofs.Records.{Fits, fits}
-use denote.Ref.{now}
-use borrow.Author.Needs.{needs}
 use Rattle.token.proofs.fault.Statement.{statement}
 use Rattle.token.proofs.fault.Tie as tie
 

@@ -1,7 +1,7 @@
-use mathlib.Core.Path.{_∙_}
-use Rattle.token.proofs.Walk.{wf-inside, integer-size, integer-is}
-use native.Mathlib.Omega.{arith}
 use borrow.Author.Needs.{needs}
+use mathlib.Core.Path.{_∙_}
+use native.Mathlib.Omega.{arith}
+use Rattle.token.proofs.Walk.{wf-inside, integer-size, integer-is}
 use Rattle.token.proofs.integer_at.Statement.{statement}
 use Rattle.token.proofs.integer_at.Tie as tie
 

@@ -1,10 +1,10 @@
-use native.Mathlib.Omega.{arith}
-use Rattle.wire.proofs.Choice.{choice}
-use Rattle.token.proofs.Laws.{Paging, paged-out, paged-step, paged-end}
-use Prim.Native.Nat.{_-_}
-use lib.ListN.{length}
-use Rattle.token.specs.Payload.{isComment}
 use borrow.Author.Needs.{needs}
+use Prim.Native.Nat.{_-_}
+use native.Mathlib.Omega.{arith}
+use lib.ListN.{length}
+use Rattle.wire.proofs.Choice.{choice}
+use Rattle.token.specs.Payload.{isComment}
+use Rattle.token.proofs.Laws.{Paging, paged-out, paged-step, paged-end}
 use Rattle.token.proofs.is_comment.Statement.{statement}
 use Rattle.token.proofs.is_comment.Tie as tie
 

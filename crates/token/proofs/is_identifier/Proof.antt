@@ -1,12 +1,10 @@
-use mathlib.Core.Path.{sym, refl, _∙_}
-use Rattle.token.proofs.Laws.{Asking, asked-no, asked-yes, asked-all}
-use native.Mathlib.Omega.{arith}
-use denote.Ref.{now}
-use Rattle.wire.proofs.Choice.{choice}
-use Prim.Native.Nat.{_≤_, _-_}
-use lib.ListN.{length, drop}
-use Rattle.token.specs.Payload.{all, isNameByte, isIdentifier}
 use borrow.Author.Needs.{needs}
+use Prim.Native.Nat.{_-_}
+use native.Mathlib.Omega.{arith}
+use lib.ListN.{length}
+use Rattle.wire.proofs.Choice.{choice}
+use Rattle.token.specs.Payload.{isNameByte, isIdentifier}
+use Rattle.token.proofs.Laws.{Asking, asked-no, asked-yes, asked-all}
 use Rattle.token.proofs.is_identifier.Statement.{statement}
 use Rattle.token.proofs.is_identifier.Tie as tie
 

@@ -1,10 +1,10 @@
-use native.Mathlib.Omega.{arith}
+use borrow.Author.Needs.{needs}
 use Prim.Native.Nat.{_-_}
+use native.Mathlib.Omega.{arith}
 use lib.ListN.{length}
 use Rattle.wire.proofs.Choice.{choice}
 use Rattle.token.specs.Payload.{isParagraph}
 use Rattle.token.proofs.Laws.{Spacing, unprintable, spaced-twice, spaced-once, spaced-end}
-use borrow.Author.Needs.{needs}
 use Rattle.token.proofs.is_paragraph.Statement.{statement}
 use Rattle.token.proofs.is_paragraph.Tie as tie
 

@@ -1,10 +1,10 @@
-use native.Mathlib.Omega.{arith}
+use borrow.Author.Needs.{needs}
 use Prim.Native.Nat.{_-_}
+use native.Mathlib.Omega.{arith}
 use lib.ListN.{length}
 use Rattle.wire.proofs.Choice.{choice}
 use Rattle.token.specs.Payload.{isPathByte, isPath}
 use Rattle.token.proofs.Laws.{Asking, asked-no, asked-yes, asked-all}
-use borrow.Author.Needs.{needs}
 use Rattle.token.proofs.is_path.Statement.{statement}
 use Rattle.token.proofs.is_path.Tie as tie
 

@@ -1,6 +1,6 @@
+use borrow.Author.Needs.{needs}
 use Rattle.wire.proofs.Choice.{choice}
 use Rattle.token.specs.Payload.{isInteger, isPayload}
-use borrow.Author.Needs.{needs}
 use Rattle.token.proofs.is_payload.Statement.{statement}
 use Rattle.token.proofs.is_payload.Tie as tie
 

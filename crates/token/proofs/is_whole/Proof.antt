@@ -1,7 +1,6 @@
+use borrow.Author.Needs.{needs}
 use Rattle.wire.proofs.Choice.{choice}
 use Rattle.token.proofs.Records.{whole-is}
-use denote.Ref.{now}
-use borrow.Author.Needs.{needs}
 use Rattle.token.proofs.is_whole.Statement.{statement}
 use Rattle.token.proofs.is_whole.Tie as tie
 

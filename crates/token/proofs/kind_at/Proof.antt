@@ -1,8 +1,8 @@
-use native.Mathlib.Omega.{arith}
+use borrow.Author.Needs.{needs}
 use mathlib.Core.Path.{sym, _∙_}
+use native.Mathlib.Omega.{arith}
 use Rattle.token.specs.Table.{tokenOf}
 use Rattle.token.proofs.Walk.{field, wf-inside}
-use borrow.Author.Needs.{needs}
 use Rattle.token.proofs.kind_at.Statement.{statement}
 use Rattle.token.proofs.kind_at.Tie as tie
 

@@ -1,7 +1,7 @@
+use borrow.Author.Needs.{needs}
 use native.Mathlib.Omega.{arith}
 use Rattle.wire.specs.Le.{leAt}
 use Rattle.token.proofs.Walk.{wf-inside, next-is}
-use borrow.Author.Needs.{needs}
 use Rattle.token.proofs.next_at.Statement.{statement}
 use Rattle.token.proofs.next_at.Tie as tie
 

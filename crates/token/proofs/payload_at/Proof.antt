@@ -1,8 +1,7 @@
+use borrow.Author.Needs.{needs}
 use native.Mathlib.Omega.{arith}
-use mathlib.Core.Path.{sym, _∙_}
 use Rattle.wire.specs.Le.{leAt}
 use Rattle.token.proofs.Walk.{wf-inside, payload-part}
-use borrow.Author.Needs.{needs}
 use Rattle.token.proofs.payload_at.Statement.{statement}
 use Rattle.token.proofs.payload_at.Tie as tie
 

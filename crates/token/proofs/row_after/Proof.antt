@@ -1,6 +1,6 @@
+use borrow.Author.Needs.{needs}
 use Rattle.wire.proofs.Choice.{choice}
 use Rattle.token.specs.Table.{rowAfter}
-use borrow.Author.Needs.{needs}
 use Rattle.token.proofs.row_after.Statement.{statement}
 use Rattle.token.proofs.row_after.Tie as tie
 

@@ -1,0 +1,54 @@
+-- A name is good byte by byte: those before a place are printable, and the test of those from there on is the test of all.
+use mathlib.Core.Path.{_≡_, refl, sym, _∙_}
+use mathlib.Core.Bool.{Bool, true, false, _&&_}
+use mathlib.Core.List.{List, [], _∷_}
+use Prim.Native.Nat.{ℕ, _+_, _<_, _≤_}
+use native.Mathlib.Numerals.{add-one}
+use native.Mathlib.Omega.{arith}
+use lib.Dec.{leb}
+use lib.ListN.{length, getD, drop, drop-of-length-le}
+use lib.Seq.{drop-cons}
+use borrow.Author.Tests.{le-leb, lt-leb, leb-true}
+use Rattle.wire.specs.Bytes.{Bytes}
+use Rattle.identifier.specs.Byte.{within, isPrintable}
+use Rattle.identifier.specs.Name.{all, isName}
+
+-- both of two tests
+pub and-inv : {x y : Bool} → (x && y) ≡ true → (x ≡ true) × (y ≡ true)
+and-inv {x = true} e = (refl, e)
+and-inv {x = false} e = let z : _≡_ {A = ℕ} 0 1 = cc in absurd (omega arith)
+
+and-false : (x : Bool) → false ≡ (x && false)
+and-false true = refl
+and-false false = refl
+
+pub record Good (name : Bytes) (i : ℕ) : Type 0 where
+  pub left : all isPrintable name ≡ all isPrintable (drop i name)
+
+module _ {name : Bytes} {i : ℕ} (g : Good name i) (h : i < length name) {k : Bool} (e : k ≡ isPrintable (getD name i 0)) where
+  pub good : k ≡ true → Good name (i + 1)
+  good t = record { left = g .left ∙ rw (drop-cons name i 0 h, ← e, t, add-one) }
+
+  pub bad : k ≡ false → false ≡ isName name
+  unfolding isName
+  bad t = let n : all isPrintable name ≡ false = g .left ∙ rw (drop-cons name i 0 h, ← e, t) in rw n (and-false (within 1 128 (length name)))
+
+-- the other three answers of `is_name`
+module _ (name : Bytes) where
+  pub too-short : length name < 1 → false ≡ isName name
+  unfolding isName
+  too-short h = rw (lt-leb 1 (length name) h)
+
+  pub too-long : 128 < length name → false ≡ isName name
+  unfolding isName
+  too-long h = rw (le-leb 1 (length name) (omega arith), lt-leb (length name) 128 h)
+
+  pub all-good : {i : ℕ} → Good name i → length name ≤ i → 1 ≤ length name → length name ≤ 128 → true ≡ isName name
+  unfolding isName
+  all-good g h a b = rw (le-leb 1 (length name) a, le-leb (length name) 128 b) (sym (g .left ∙ rw (drop-of-length-le name h)))
+
+  pub name-short : isName name ≡ true → length name ≤ 128
+  unfolding isName
+  name-short e =
+      let sized : within 1 128 (length name) ≡ true = and-inv {x = within 1 128 (length name)} {y = all isPrintable name} e .0 in
+      leb-true (length name) 128 (and-inv {x = leb 1 (length name)} {y = leb (length name) 128} sized .1)

@@ -1,0 +1,3 @@
+-- The definitions of namespaces and of the answers on names.
+pub mod Namespace
+pub mod Answer
