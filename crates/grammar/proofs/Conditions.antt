@@ -22,10 +22,10 @@ pub record New {K : Type 0} (seen ks : List K) : Type 0 where
   pub distinct : Distinct ks
 
 module _ {K : Type 0} where
-  new-nil : (seen : List K) → New seen []
+  pub new-nil : (seen : List K) → New seen []
   new-nil seen = record { apart = λ k m n. List·Memᴰ·not-nil m; distinct = tt }
 
-  new-cons : (seen ks : List K) (k : K) → ¬ (List·Memᴰ k seen) → New (k ∷ seen) ks → New seen (k ∷ ks)
+  pub new-cons : (seen ks : List K) (k : K) → ¬ (List·Memᴰ k seen) → New (k ∷ seen) ks → New seen (k ∷ ks)
   new-cons seen ks k n w =
       record { apart = λ x m m′. go x m′ (List·Memᴰ·cases-cons m); distinct = (λ m. w .apart k m (List·Memᴰ·head refl), w .distinct) }
     where
@@ -33,7 +33,7 @@ module _ {K : Type 0} where
       go x m (inl e) = n (Memᴰ·cast (sym e) m)
       go x m (inr i) = w .apart x i (List·Memᴰ·tail m)
 
-  new-tail : (seen ks : List K) (k : K) → New seen (k ∷ ks) → (¬ (List·Memᴰ k seen)) × New (k ∷ seen) ks
+  pub new-tail : (seen ks : List K) (k : K) → New seen (k ∷ ks) → (¬ (List·Memᴰ k seen)) × New (k ∷ seen) ks
   new-tail seen ks k w =
       (w .apart k (List·Memᴰ·head refl), record { apart = λ x m m′. go x m (List·Memᴰ·cases-cons m′); distinct = w .distinct .1 })
     where
@@ -41,12 +41,12 @@ module _ {K : Type 0} where
       go x m (inl e) = w .distinct .0 (Memᴰ·cast (sym e) m)
       go x m (inr i) = w .apart x (List·Memᴰ·tail m) i
 
-  distinct-new : (ks : List K) → Distinct ks → New [] ks
+  pub distinct-new : (ks : List K) → Distinct ks → New [] ks
   distinct-new ks d = record { apart = λ k m n. List·Memᴰ·not-nil n; distinct = d }
 
 -- a test that compares keys
 module _ {A K : Type 0} (key : A → K) (same : A → A → Bool) (same-key : (x y : A) → same x y ≡ true → key x ≡ key y) (key-same : (x y : A) → key x ≡ key y → same x y ≡ true) where
-  none-same : (x : A) (ys : List A) → anyOf (same x) ys ≡ false → ¬ (List·Memᴰ (key x) (map key ys))
+  pub none-same : (x : A) (ys : List A) → anyOf (same x) ys ≡ false → ¬ (List·Memᴰ (key x) (map key ys))
   none-same x [] h m = List·Memᴰ·not-nil m
   none-same x (y ∷ ys) h m = go (same x y) refl (List·Memᴰ·cases-cons m) (none-same x ys)
     where
@@ -56,7 +56,7 @@ module _ {A K : Type 0} (key : A → K) (same : A → A → Bool) (same-key : (x
       go false e (inl p) ih = true≢false (sym (key-same x y p) ∙ e)
       go false e (inr n) ih = ih (rw e at h) n
 
-  same-none : (x : A) (ys : List A) → ¬ (List·Memᴰ (key x) (map key ys)) → anyOf (same x) ys ≡ false
+  pub same-none : (x : A) (ys : List A) → ¬ (List·Memᴰ (key x) (map key ys)) → anyOf (same x) ys ≡ false
   same-none x [] n = refl
   same-none x (y ∷ ys) n = go (same x y) refl (same-none x ys λ m. n (List·Memᴰ·tail m))
     where

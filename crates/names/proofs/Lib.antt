@@ -3,4 +3,5 @@ pub mod Answers
 pub mod Joined
 pub mod Walk
 pub mod Dotted
-pub mod Cases
+pub mod Shared
+pub mod Theorems

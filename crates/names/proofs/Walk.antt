@@ -62,7 +62,7 @@ first-is : (ns : Bytes) (p : ℕ) → firstName (drop p ns) ≡ nameAt ns p
 unfolding firstName leAt
 first-is ns p = rw (drop-drop 2 p ns)
 
-after-is : (ns : Bytes) (p : ℕ) → afterName (drop p ns) ≡ drop (p + 2 + u16At ns p) ns
+pub after-is : (ns : Bytes) (p : ℕ) → afterName (drop p ns) ≡ drop (p + 2 + u16At ns p) ns
 unfolding afterName leAt
 after-is ns p = let e : p + (2 + u16At ns p) ≡ p + 2 + u16At ns p = omega arith in rw (drop-drop, e)
 

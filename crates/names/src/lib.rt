@@ -46,8 +46,8 @@ fn store_form(out: &mut [u8], form: Form) -> Answer
 fn is_name(name: &[u8]) -> bool
     ensures { λ r. ⌜ r ≡ isName (now (name .entry)) ⌝ }
 {
-    let class = identifier::class_table();
-    identifier::is_name(&class, name)
+    let class = identifier::tables::class_table();
+    identifier::tables::is_name(&class, name)
 }
 
 fn are_names(a: &[u8], b: &[u8]) -> bool
@@ -207,7 +207,7 @@ fn name_end(class: &[u8; 256], ns: &[u8], at: usize) -> usize
         return 0;
     }
     let to = from + size;
-    if identifier::is_name(class, &ns[from..to]) {
+    if identifier::tables::is_name(class, &ns[from..to]) {
         return to;
     }
     0
@@ -216,7 +216,7 @@ fn name_end(class: &[u8; 256], ns: &[u8], at: usize) -> usize
 fn is_namespace(ns: &[u8]) -> bool
     ensures { λ r. ⌜ r ≡ isNamespace (now (ns .entry)) ⌝ }
 {
-    let class = identifier::class_table();
+    let class = identifier::tables::class_table();
     let mut left: usize = 64;
     let mut at: usize = 0;
     while at < ns.len() {

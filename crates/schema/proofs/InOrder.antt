@@ -17,8 +17,8 @@ use Rattle.schema.specs.Kind.{sComment, sImport, sStruct, sChoice, sFiel
 use Rattle.schema.specs.Order.{isChainAfter, isChain}
 use Rattle.schema.specs.Limits.{Each, RangeWithin, CommentWithin, ImportWithin, TypeWithin, nesting, FieldWithin, DeletedWithin, DeclarationWithin, isEarlier, Within}
 use Rattle.schema.specs.Encode.{nowhere, declarationKind, declarationPayload, importPayload}
-use Rattle.schema.specs.Payload.{nameOf, isPayload}
-use Rattle.schema.specs.Table.{mayFollow, isLater, rowOf, isNext, areNext, outset}
+use Rattle.schema.specs.Payload.{nameOf, isTypePayload, isPayload}
+use Rattle.schema.specs.Table.{mayFollow, isLater, rowAfter, isRight, isNext, areNext, outset}
 use Rattle.schema.proofs.Records.{both, Fits, AllFit}
 use Rattle.schema.proofs.Payloads.{Right, name-is, import-right, comment-right, declaration-right, field-right, deleted-right, plain-right, custom-right}
 use Rattle.schema.proofs.Written.{made, commentRecords, importRecords, typeRecords, fieldRecords, deletedRecords, declarationRecords, schemaRecords}
@@ -45,16 +45,16 @@ pub record Next (last : Token) (row : ℕ) (rs : List Token) : Type 0 where
 
 -- one more record
 next : {last : Token} {row kind : ℕ} {r : Range} {p : Bytes} {rs : List Token} → mayFollow (last .kind) kind ≡ true → isPayload kind p ≡ true
-    → isLater last (made kind r p) ≡ true → rowOf row (made kind r p) ≤ 64 → Next (made kind r p) (rowOf row (made kind r p)) rs → Next last row (made kind r p ∷ rs)
-unfolding isNext
-next a b c d e = record { are = rw (a, b, c, le-leb _ 64 d, e .are) }
+    → isLater (last .kind) (last .payload) kind p ≡ true → rowAfter row kind ≤ 64 → Next (made kind r p) (rowAfter row kind) rs → Next last row (made kind r p ∷ rs)
+unfolding isNext isRight
+next a b c d e = record { are = rw (a, b, le-leb _ 64 d, c, e .are) }
 
 types-next : (y : TypeVariant) (last : Token) (row : ℕ) (rs : List Token) → Typed (last .kind) → row + nesting y ≤ 64 → TypeWithin y
     → ((last : Token) → Inside (last .kind) → Next last 0 rs) → Next last row (typeRecords y rs)
-unfolding mayFollow pick isPayload isLater rowOf
+unfolding mayFollow pick isPayload isTypePayload isLater rowAfter
 types-next (TypeVariant.array r inner) last row rs a h w k =
     next (a .array) refl refl (omega arith)
-    (types-next inner (made sArray r []) (suc row) rs (record { array = refl; plain = refl; custom = refl }) (omega arith) (w .1) k)
+    (types-next inner (made sArray r []) (row + 1) rs (record { array = refl; plain = refl; custom = refl }) (omega arith) (w .1) k)
 types-next (TypeVariant.plain r kind) last row rs a h w k =
     next (a .plain) (plain-right kind (w .1) .right) refl (omega arith)
     (k _ (record { field = refl; deleted = refl; outside = record { struct = refl; choice = refl; end = refl } }))
@@ -64,7 +64,7 @@ types-next (TypeVariant.custom r import name) last row rs a h w k =
 
 fields-next : (fs : List Field) (last : Token) (rs : List Token) → Inside (last .kind) → Each FieldWithin fs
     → ((last : Token) → Inside (last .kind) → Next last 0 rs) → Next last 0 (fieldRecords fs rs)
-unfolding mayFollow pick isPayload isLater rowOf
+unfolding mayFollow pick isPayload isTypePayload isLater rowAfter
 fields-next [] last rs a w k = k last a
 fields-next (f ∷ fs) last rs a w k =
     next (a .field) (field-right f (w .0) .right) refl (omega arith)
@@ -73,13 +73,13 @@ fields-next (f ∷ fs) last rs a w k =
 
 deleted-next : (ns : List ℕ) (last : Token) (rs : List Token) → Inside (last .kind) → DeletedWithin ns
     → ((last : Token) → Outside (last .kind) → Next last 0 rs) → Next last 0 (deletedRecords ns rs)
-unfolding mayFollow pick isPayload isLater rowOf
+unfolding mayFollow pick isPayload isTypePayload isLater rowAfter
 deleted-next [] last rs a w k = k last (a .outside)
 deleted-next (n ∷ ns) last rs a w k =
     next (a .deleted) (deleted-right n ns w .right) refl (omega arith) (k _ (record { struct = refl; choice = refl; end = refl }))
 
 declarations-next : (ds : List Declaration) (last : Token) → Outside (last .kind) → Each DeclarationWithin ds → Next last 0 (declarationRecords ds)
-unfolding mayFollow pick isPayload isLater rowOf
+unfolding mayFollow pick isPayload isTypePayload isLater rowAfter
 declarations-next [] last a w = record { are = a .end }
 declarations-next (d ∷ ds) last a w = go (d .variant) (λ last a. declarations-next ds last a (w .1))
   where
@@ -101,7 +101,7 @@ declarations-next (d ∷ ds) last a w = go (d .variant) (λ last a. declarations
 module _ (ds : List Declaration) (w : Each DeclarationWithin ds) where
   imports-after : (i : Import) (is : List Import) → ImportWithin i → Each ImportWithin is → isChainAfter isEarlier i is ≡ true
       → Next (made sImport (i .range) (importPayload i)) 0 (importRecords is (declarationRecords ds))
-  unfolding mayFollow pick isPayload isLater rowOf
+  unfolding mayFollow pick isPayload isTypePayload isLater rowAfter
   imports-after i [] v ws c = declarations-next ds _ (record { struct = refl; choice = refl; end = refl }) w
   imports-after i (j ∷ is) v ws c =
       let b = both (isEarlier i j) _ c in
@@ -111,12 +111,12 @@ module _ (ds : List Declaration) (w : Each DeclarationWithin ds) where
 
   imports-next : (is : List Import) (last : Token) → mayFollow (last .kind) sImport ≡ true → eqb (last .kind) sImport ≡ false → Outside (last .kind)
       → Each ImportWithin is → isChain isEarlier is ≡ true → Next last 0 (importRecords is (declarationRecords ds))
-  unfolding isPayload isLater rowOf pick
+  unfolding isPayload isTypePayload isLater rowAfter pick
   imports-next [] last a b o ws c = declarations-next ds last o w
   imports-next (i ∷ is) last a b o ws c = next a (import-right i (ws .0) .right) (rw b) (omega arith) (imports-after i is (ws .0) (ws .1) c)
 
 pub schema-next : (s : Schema) → Within s → areNext outset 0 (schemaRecords s) ≡ true
-unfolding mayFollow pick isPayload isLater rowOf
+unfolding mayFollow pick isPayload isTypePayload isLater rowAfter
 schema-next s w = go (s .comment) (w .comment) .are
   where
     imports : (last : Token) → mayFollow (last .kind) sImport ≡ true → eqb (last .kind) sImport ≡ false → Outside (last .kind)

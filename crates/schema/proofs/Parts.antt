@@ -17,8 +17,8 @@ use Rattle.identifier.specs.Byte.{within}
 use Rattle.token.specs.Payload.{atLeast, isParagraph, areParagraphs, paragraphOf, afterParagraph, paragraphsIn, paragraphsOf, paragraphBytes}
 use Rattle.schema.specs.Limits.{Each}
 use Rattle.schema.specs.Encode.{sized, counted, indices}
-use Rattle.schema.specs.Payload.{nameOf, afterName, isSized, indicesIn, indicesOf}
-use Rattle.token.proofs.Laws.{atLeast-length}
+use Rattle.schema.specs.Payload.{nameOf, afterName, isSized, isNamed, indicesIn, indicesOf}
+use Rattle.token.proofs.Laws.{atLeast-length, part-from}
 use Rattle.schema.proofs.Records.{both}
 
 -- bytes of bytes
@@ -96,12 +96,25 @@ name-back p s a =
     let h = s .room in
     rw (s .size, leBytes-leAt 2 p 0 (omega arith) a, ← (take-add 2 (u16At p 0) p), drop-drop) (take-append-drop (2 + u16At p 0) p)
 
+pub named-sized : (p : Bytes) → isNamed p ≡ true → isSized p ≡ true
+unfolding isNamed
+named-sized p e = both (isSized p) _ e .0
+
+-- as parts of a slice
+pub name-part : (p : Bytes) → take (2 + u16At p 0 - 2) (drop 2 p) ≡ nameOf p
+unfolding paragraphOf
+name-part p = let z : 2 + u16At p 0 - 2 ≡ u16At p 0 = omega arith in rw z
+
+pub after-part : (p : Bytes) → take (length p - (2 + u16At p 0)) (drop (2 + u16At p 0) p) ≡ afterName p
+unfolding afterParagraph
+after-part p = part-from p (2 + u16At p 0) ∙ sym (drop-drop (u16At p 0) 2 p)
+
 -- paragraphs, each as a name stands
-paragraphs-step : (n : ℕ) (bs : Bytes) → 0 < length bs → paragraphsIn (suc n) bs ≡ paragraphOf bs ∷ paragraphsIn n (afterParagraph bs)
+pub paragraphs-step : (n : ℕ) (bs : Bytes) → 0 < length bs → paragraphsIn (suc n) bs ≡ paragraphOf bs ∷ paragraphsIn n (afterParagraph bs)
 paragraphs-step n [] h = absurd (omega arith)
 paragraphs-step n (b ∷ bs) h = refl
 
-are-step : (n : ℕ) (bs : Bytes) → 0 < length bs → areParagraphs (suc n) bs ≡ (isSized bs && (isParagraph (paragraphOf bs) && areParagraphs n (afterParagraph bs)))
+pub are-step : (n : ℕ) (bs : Bytes) → 0 < length bs → areParagraphs (suc n) bs ≡ (isSized bs && (isParagraph (paragraphOf bs) && areParagraphs n (afterParagraph bs)))
 unfolding areParagraphs isSized
 are-step n [] h = absurd (omega arith)
 are-step n (b ∷ bs) h =

@@ -1,11 +1,9 @@
 -- Schemas and their tables. Encoding and decoding are inverse to each other, between the schemas within the limits and the schema tables whose
 -- records 101 and 106 have the range 0,0: encoding writes it, decoding doesn't judge it.
 use mathlib.Core.Path.{_≡_, refl, sym, ap, _∙_}
-use mathlib.Core.Bool.{Bool, true, false}
-use mathlib.Core.Option.{Option, none, some}
+use mathlib.Core.Bool.{true}
+use mathlib.Core.Option.{some}
 use mathlib.Core.List.{List, [], _∷_, map}
-use Prim.Native.Nat.{ℕ}
-use native.Mathlib.Omega.{arith}
 use lib.Dec.{ltb}
 use Rattle.wire.specs.Bytes.{Bytes}
 use Rattle.wire.specs.Pick.{pick}
@@ -24,6 +22,7 @@ use Rattle.schema.proofs.Written.{schemaRecords, encode-records}
 use Rattle.schema.proofs.ReadBack.{schema-is}
 use Rattle.schema.proofs.WriteBack.{SchemaParts, schema-parts}
 use Rattle.schema.proofs.InOrder.{schema-next, schema-fits}
+use Rattle.schema.proofs.Verdict.{decoded}
 
 module _ (s : Schema) (w : Within s) where
   records-are : recordsOf (encodeSchema s) ≡ schemaRecords s
@@ -42,19 +41,6 @@ module _ (s : Schema) (w : Within s) where
 -- equal encodings mean equal schemas
 pub encode-unique : (s s′ : Schema) → Within s → Within s′ → encodeSchema s ≡ encodeSchema s′ → s ≡ s′
 encode-unique s s′ w w′ e = let p : some s ≡ some s′ = sym (decode-encode s w) ∙ ap decodeSchema e ∙ decode-encode s′ w′ in cc
-
--- where decoding gives a schema, the bytes are a schema table, and it holds that schema
-pub record Decoded (t : Bytes) (s : Schema) : Type 0 where
-  pub right : isSchemaTable t ≡ true
-  pub schema : s ≡ schemaOf (recordsOf t)
-
-pub decoded : (t : Bytes) (s : Schema) → decodeSchema t ≡ some s → Decoded t s
-unfolding decodeSchema
-decoded t s e = go (isSchemaTable t) refl e
-  where
-    go : (b : Bool) → isSchemaTable t ≡ b → pick b (some (schemaOf (recordsOf t))) none ≡ some s → Decoded t s
-    go true r e = unfold pick in record { right = r; schema = cc }
-    go false r e = let z : _≡_ {A = ℕ} 0 1 = unfold pick in cc in absurd (omega arith)
 
 module _ (t : Bytes) (a : AllBytes t) (s : Schema) (e : decodeSchema t ≡ some s) where
   table : Back t

@@ -19,10 +19,11 @@ use Rattle.schema.specs.Kind.{sComment, sImport, sStruct, sChoice, sFiel
 use Rattle.schema.specs.Order.{isChainAfter, isChain}
 use Rattle.schema.specs.Limits.{Each, RangeWithin, CommentWithin, ImportWithin, TypeWithin, nesting, FieldWithin, DeletedWithin, DeclarationWithin, isEarlier, Within}
 use Rattle.schema.specs.Encode.{nowhere, indices}
-use Rattle.schema.specs.Payload.{nameOf, indicesOf, isPayload}
-use Rattle.schema.specs.Table.{mayFollow, isOutside, isImporting, isInside, isType, isLater, rowOf, isNext, areNext, outset}
+use Rattle.schema.specs.Payload.{nameOf, indicesOf, isTypePayload, isPayload}
+use Rattle.schema.specs.Table.{mayFollow, isOutside, isImporting, isInside, isType, isLater, rowAfter, isRight, isNext, areNext, outset}
 use Rattle.schema.specs.Decode.{rangeOf, openingOf, importOf, importsOf, typeOf, fieldsOf, deletedOf, declarationsOf, schemaOf, settled}
-use Rattle.schema.proofs.Records.{both, Fits}
+use Rattle.schema.proofs.Records.{Fits}
+use Rattle.schema.proofs.Steps.{After, at-kind, never, either, NextIs, next-is}
 use Rattle.schema.proofs.PayloadsRead.{Some, import-read, declaration-read, field-read, deleted-read, comment-read, plain-read, custom-read}
 use Rattle.schema.proofs.Written.{made, commentRecords, importRecords, typeRecords, fieldRecords, deletedRecords, declarationRecords, schemaRecords}
 
@@ -60,10 +61,6 @@ record ImportParts (last : Token) (rs : List Token) : Type 0 where
   later : last .kind ≡ sImport → isChainAfter isEarlier (importOf last) (importsOf rs) ≡ true
   declarations : Each DeclarationWithin (declarationsOf rs)
 
--- what may stand after a record
-abbrev After : Token → (ℕ → Bool) → Type 0
-After last f = (k : ℕ) → mayFollow (last .kind) k ≡ f k
-
 record Parts (rs : List Token) : Type 0 where
   outside : (last : Token) (row : ℕ) → After last isOutside → areNext last row rs ≡ true → OutsideParts rs
   inside : (last : Token) (row : ℕ) → After last isInside → areNext last row rs ≡ true → InsideParts rs
@@ -73,9 +70,6 @@ record Parts (rs : List Token) : Type 0 where
 none : DeletedWithin []
 none = record { each = tt; ascending = refl; few = omega arith }
 
-never : {A : Type 0} → _≡_ {A = Bool} false true → A
-never e = let z : _≡_ {A = ℕ} 0 1 = cc in absurd (omega arith)
-
 parts-end : Parts []
 parts-end = record {
   outside = λ last row f e. record { back = refl; declarations = tt };
@@ -84,31 +78,6 @@ parts-end = record {
   imports = λ last row f e. record { back = refl; imports = tt; ascending = refl; later = λ _. refl; declarations = tt };
 }
 
--- a record of a known kind
-at-kind : (P : Token → Type 0) (r : Token) {k : ℕ} → r .kind ≡ k → P (made k (rangeOf r) (r .payload)) → P r
-at-kind P r e h = subst (λ (k : ℕ). P (made k (rangeOf r) (r .payload))) (sym e) h
-
-either : {A : Type 0} (a b : Bool) → (a || b) ≡ true → (a ≡ true → A) → (b ≡ true → A) → A
-either true b e f g = f refl
-either false b e f g = g e
-
--- the parts of what is known of the next record
-record NextIs (last : Token) (row : ℕ) (r : Token) (rs : List Token) : Type 0 where
-  follow : mayFollow (last .kind) (r .kind) ≡ true
-  payload : isPayload (r .kind) (r .payload) ≡ true
-  later : isLater last r ≡ true
-  nested : rowOf row r ≤ 64
-  rest : areNext r (rowOf row r) rs ≡ true
-
-next-is : {last : Token} {row : ℕ} {r : Token} {rs : List Token} → areNext last row (r ∷ rs) ≡ true → NextIs last row r rs
-unfolding isNext
-next-is {last} {row} {r} e =
-    let a = both (isNext last row r) _ e in
-    let b = both (mayFollow (last .kind) (r .kind)) _ (a .0) in
-    let c = both (isPayload (r .kind) (r .payload)) _ (b .1) in
-    let d = both (isLater last r) _ (c .1) in
-    record { follow = b .0; payload = c .0; later = d .0; nested = leb-true (rowOf row r) 64 (d .1); rest = a .1 }
-
 -- one more record in front
 module _ (rs : List Token) (h : Parts rs) (last : Token) (row : ℕ) where
   -- a record of this kind leaves these parts
@@ -116,7 +85,7 @@ module _ (rs : List Token) (h : Parts rs) (last : Token) (row : ℕ) where
   Gives Q r = Read r → NextIs last row r rs → Q (r ∷ rs)
 
   struct-gives : (range : Range) (p : Bytes) → Gives OutsideParts (made sStruct range p)
-  unfolding isPayload mayFollow pick
+  unfolding isPayload isTypePayload mayFollow pick
   struct-gives range p read n =
       let i = h .inside _ _ (λ k. refl) (n .rest) in
       let d = declaration-read p (read .bytes) (n .payload) in
@@ -126,7 +95,7 @@ module _ (rs : List Token) (h : Parts rs) (last : Token) (row : ℕ) where
       }
 
   choice-gives : (range : Range) (p : Bytes) → Gives OutsideParts (made sChoice range p)
-  unfolding isPayload mayFollow pick
+  unfolding isPayload isTypePayload mayFollow pick
   choice-gives range p read n =
       let i = h .inside _ _ (λ k. refl) (n .rest) in
       let d = declaration-read p (read .bytes) (n .payload) in
@@ -138,13 +107,13 @@ module _ (rs : List Token) (h : Parts rs) (last : Token) (row : ℕ) where
   -- where a declaration begins, or the table would end
   outside-gives : (Q : List Token → Type 0) → ((range : Range) (p : Bytes) → Gives Q (made sStruct range p)) → ((range : Range) (p : Bytes) → Gives Q (made sChoice range p))
       → (r : Token) → isOutside (r .kind) ≡ true → Gives Q r
-  unfolding isPayload pick
+  unfolding isPayload isTypePayload pick
   outside-gives Q s c r e =
       either (eqb (r .kind) 0) _ e (λ q. at-kind (Gives Q) r (eqb-true _ _ q) (λ read n. never (n .payload)))
       (λ e. either (eqb (r .kind) sStruct) _ e (λ q. at-kind (Gives Q) r (eqb-true _ _ q) (s (rangeOf r) (r .payload))) (λ q. at-kind (Gives Q) r (eqb-true _ _ q) (c (rangeOf r) (r .payload))))
 
   field-gives : (range : Range) (p : Bytes) → Gives InsideParts (made sField range p)
-  unfolding isPayload mayFollow pick rowOf
+  unfolding isPayload isTypePayload mayFollow pick rowAfter
   field-gives range p read n =
       let t = h .typed _ _ (λ k. refl) (omega arith) (n .rest) in
       let f = field-read p (read .bytes) (n .payload) in
@@ -156,7 +125,7 @@ module _ (rs : List Token) (h : Parts rs) (last : Token) (row : ℕ) where
       }
 
   deleted-gives : (range : Range) (p : Bytes) → Gives InsideParts (made sDeleted range p)
-  unfolding isPayload mayFollow pick
+  unfolding isPayload isTypePayload mayFollow pick
   deleted-gives range p read n =
       let o = h .outside _ _ (λ k. refl) (n .rest) in
       let d = deleted-read p (read .bytes) (read .fits .size) (n .payload) in
@@ -175,7 +144,7 @@ module _ (rs : List Token) (h : Parts rs) (last : Token) (row : ℕ) where
       r))
 
   array-gives : (range : Range) (p : Bytes) → Gives (TypedParts row) (made sArray range p)
-  unfolding isPayload mayFollow pick rowOf
+  unfolding isPayload isTypePayload mayFollow pick rowAfter
   array-gives range p read n =
       let t = h .typed _ _ (λ k. refl) (n .nested) (n .rest) in
       let l = t .nested in
@@ -194,14 +163,14 @@ module _ (rs : List Token) (h : Parts rs) (last : Token) (row : ℕ) where
 
   module _ (l : row ≤ 64) where
     plain-gives : (range : Range) (p : Bytes) → Gives (TypedParts row) (made sPlain range p)
-    unfolding isPayload mayFollow pick
+    unfolding isPayload isTypePayload mayFollow pick
     plain-gives range p read n =
         let i = h .inside _ _ (λ k. refl) (n .rest) in
         let d = plain-read p (read .bytes) (n .payload) in
         record { back = rw (d .back, i .back); type = (range-within read, d .kind); nested = omega arith; fields = i .fields; deleted = i .deleted; declarations = i .declarations }
 
     custom-gives : (range : Range) (p : Bytes) → Gives (TypedParts row) (made sCustom range p)
-    unfolding isPayload mayFollow pick
+    unfolding isPayload isTypePayload mayFollow pick
     custom-gives range p read n =
         let i = h .inside _ _ (λ k. refl) (n .rest) in
         let d = custom-read p (read .bytes) (n .payload) in
@@ -213,12 +182,12 @@ module _ (rs : List Token) (h : Parts rs) (last : Token) (row : ℕ) where
         (λ e. either (eqb (r .kind) sPlain) _ e (λ q. at-kind (Gives (TypedParts row)) r (eqb-true _ _ q) (plain-gives (rangeOf r) (r .payload)))
         (λ q. at-kind (Gives (TypedParts row)) r (eqb-true _ _ q) (custom-gives (rangeOf r) (r .payload))))
 
-  earlier : (range : Range) (p : Bytes) → last .kind ≡ sImport → isLater last (made sImport range p) ≡ true → isBefore (nameOf (last .payload)) (nameOf p) ≡ true
-  unfolding isLater
+  earlier : (range : Range) (p : Bytes) → last .kind ≡ sImport → isLater (last .kind) (last .payload) sImport p ≡ true → isBefore (nameOf (last .payload)) (nameOf p) ≡ true
+  unfolding isLater pick
   earlier range p e l = rw (eq-eqb (last .kind) sImport e) at l
 
   import-gives : (range : Range) (p : Bytes) → Gives (ImportParts last) (made sImport range p)
-  unfolding isPayload mayFollow pick
+  unfolding isPayload isTypePayload mayFollow pick
   import-gives range p read n =
       let m = h .imports _ _ (λ k. refl) (n .rest) in
       let i = import-read p (read .bytes) (n .payload) in
@@ -261,7 +230,7 @@ no-comment : CommentWithin []
 no-comment = record { few = omega arith; each = tt }
 
 schema-step : (r : Token) (rs : List Token) → Parts rs → Read r → NextIs outset 0 r rs → SchemaParts (r ∷ rs)
-unfolding isPayload mayFollow pick
+unfolding isPayload isTypePayload mayFollow pick
 schema-step r rs h read n = go (eqb (r .kind) sComment) refl
   where
     written : (ps : List Bytes) → Some Bytes ps → {rs : List Token} → commentRecords ps rs ≡ made sComment nowhere (paragraphBytes ps) ∷ rs

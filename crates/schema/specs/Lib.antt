@@ -7,4 +7,5 @@ pub mod Payload
 pub mod Table
 pub mod Decode
 pub mod Walk
+pub mod Checked
 pub mod Limits

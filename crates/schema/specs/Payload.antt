@@ -64,6 +64,13 @@ isPlainType p = eqb (length p) 2 && isPlain (u16At p 0)
 unfoldable pub isCustom : Bytes → Bool
 isCustom p = isSized p && ((eqb (u16At p 0) 0 || isName (nameOf p)) && isName (afterName p))
 
+unfoldable pub isTypePayload : ℕ → Bytes → Bool
+isTypePayload kind p =
+    pick (eqb kind sArray) (eqb (length p) 0)
+    (pick (eqb kind sPlain) (isPlainType p)
+    (pick (eqb kind sCustom) (isCustom p)
+    false))
+
 unfoldable pub isPayload : ℕ → Bytes → Bool
 isPayload kind p =
     pick (eqb kind sComment) (isComment p)
@@ -71,7 +78,4 @@ isPayload kind p =
     (pick (eqb kind sStruct || eqb kind sChoice) (isDeclaration p)
     (pick (eqb kind sField) (isField p)
     (pick (eqb kind sDeleted) (isDeleted p)
-    (pick (eqb kind sArray) (eqb (length p) 0)
-    (pick (eqb kind sPlain) (isPlainType p)
-    (pick (eqb kind sCustom) (isCustom p)
-    false)))))))
+    (isTypePayload kind p)))))

@@ -1,6 +1,6 @@
 -- Document 01, "Tables": what a schema table is. R9 stands for all other bytes.
-use Prim.Native.Nat.{ℕ, zero, suc, _-_}
-use mathlib.Core.Bool.{Bool, true, false, not, _&&_, _||_}
+use Prim.Native.Nat.{ℕ, zero, suc, _+_, _-_}
+use mathlib.Core.Bool.{Bool, true, false, _&&_, _||_}
 use mathlib.Core.List.{List, [], _∷_}
 use lib.Dec.{leb, eqb}
 use Rattle.wire.specs.Bytes.{Bytes}
@@ -53,21 +53,24 @@ mayFollow last k =
     (pick (eqb last sComment || eqb last sImport) (isImporting k)
     (pick (eqb last sField || eqb last sArray) (isType k) (pick (eqb last sDeleted) (isOutside k) (isInside k))))
 
--- imports ascend by snake case
-unfoldable pub isLater : Token → Token → Bool
-isLater last r = not (eqb (r .kind) sImport && eqb (last .kind) sImport) || isBefore (nameOf (last .payload)) (nameOf (r .payload))
+-- how many arrays stand in a row up to a record of this kind, with `row` before it
+unfoldable pub rowAfter : ℕ → ℕ → ℕ
+rowAfter row k = pick (eqb k sArray) (row + 1) 0
 
--- how many arrays stand in a row up to this record, with `row` before it
-unfoldable pub rowOf : ℕ → Token → ℕ
-rowOf row r = pick (eqb (r .kind) sArray) (suc row) 0
+-- a record is right after one of the kind `last`, by its kind, its payload and the arrays in a row
+unfoldable pub isRight : ℕ → ℕ → ℕ → Bytes → Bool
+isRight last row k p = mayFollow last k && (isPayload k p && leb (rowAfter row k) 64)
 
--- a record after another: its place, its payload, its order and its nesting are right
+-- imports ascend by snake case: the kinds and the payloads of two records in a row
+unfoldable pub isLater : ℕ → Bytes → ℕ → Bytes → Bool
+isLater last p k q = pick (eqb k sImport && eqb last sImport) (isBefore (nameOf p) (nameOf q)) true
+
 unfoldable pub isNext : Token → ℕ → Token → Bool
-isNext last row r = mayFollow (last .kind) (r .kind) && (isPayload (r .kind) (r .payload) && (isLater last r && leb (rowOf row r) 64))
+isNext last row r = isRight (last .kind) row (r .kind) (r .payload) && isLater (last .kind) (last .payload) (r .kind) (r .payload)
 
 abbrev pub areNext : Token → ℕ → List Token → Bool
 areNext last row [] = mayFollow (last .kind) 0
-areNext last row (r ∷ rs) = isNext last row r && areNext r (rowOf row r) rs
+areNext last row (r ∷ rs) = isNext last row r && areNext r (rowAfter row (r .kind)) rs
 
 -- what stands before the first record
 abbrev pub outset : Token

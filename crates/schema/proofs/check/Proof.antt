@@ -1,0 +1,16 @@
+use Rattle.schema.proofs.Verdict.{checked-long, checked-table, checked-other}
+use borrow.Author.Needs.{needs}
+use Rattle.schema.proofs.check.Statement.{statement}
+use Rattle.schema.proofs.check.Tie as tie
+
+returns : tie.Need-returns
+returns c = checked-long _ (c .if1 .taken)
+
+returns-2 : tie.Need-returns-2
+returns-2 c = checked-table _ (c .before .before .if1 .left) (c .before .is-table .ensures) (c .if2 .taken)
+
+returns-3 : tie.Need-returns-3
+returns-3 c = checked-other _ (c .before .before .if1 .left) (c .before .is-table .ensures) (c .if2 .left)
+
+pub check-spec : {M : Type 1} → statement M
+check-spec = tie.close (tie.spec returns (λ c κs. search needs) returns-2 returns-3)

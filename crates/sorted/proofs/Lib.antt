@@ -1,0 +1,13 @@
+-- The laws of sorting. Theorems is what callers cite; the others prove it and the functions.
+pub mod Each
+pub mod Insertion
+pub mod Merging
+pub mod Halving
+pub mod Items
+pub mod Neighbours
+pub mod Searching
+pub mod Repeats
+pub mod Earlier
+pub mod Mapped
+pub mod Theorems
+pub mod Cases
