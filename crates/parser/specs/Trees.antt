@@ -5,7 +5,6 @@ use mathlib.Core.Option.{Option, none, some}
 use lib.Dec.{eqb}
 use Rattle.wire.specs.Bytes.{Bytes}
 use Rattle.wire.specs.Pick.{pick}
-use Rattle.token.specs.Token.{Token}
 use Rattle.token.specs.Kind.{kIdentifier}
 use Rattle.token.specs.Places.{tokAt, nextAt}
 use Rattle.grammar.specs.Tree.{TypeTree, array, plain, single, dotted, TypePart, FieldTree, HeadTree, AliasPart, ImportTree}

@@ -1,13 +1,17 @@
 // The rules of parser.rs over a checked token table. Each goes from a cursor to the places of what it read and the cursor past it, or to an error's number and place.
 ghost use mathlib.Core.Path.{_≡_};
+ghost use mathlib.Core.Logic.{_≢_};
 ghost use Prim.Native.Nat.{_<_};
 ghost use lib.Dec.{eqb};
 ghost use Rattle.wire.specs.Pick.{pick};
-ghost use Rattle.token.specs.Kind.{kStruct, isPlain, isRule, isKeyword};
+ghost use Rattle.token.specs.Kind.{kLeftSquare, kStruct, isRule};
 ghost use Rattle.token.specs.Places.{Wf};
 ghost use Rattle.grammar.specs.Error.{kindAt};
 ghost use Rattle.grammar.specs.Reading.{is, consume, isDotted, parseDotted, parseSingle, parseType};
 ghost use Rattle.parser.specs.Steps.{ahead, Stepped, TokenRead, Skipped, TypeRead, baseStep, Opened, PartRead, FieldRead, HeadRead, ImportRead};
+
+pub mod kinds;
+
 use token::kind;
 
 // A place in the token table: a record's, or the table's length at the end of the tokens.
@@ -79,8 +83,7 @@ fn skip_rule(t: &[u8], c: Cursor) -> Skip
     requires { ⌜ Wf (now t) (c .at) ⌝ }
     ensures { λ r. ⌜ Skipped (now (t .entry)) c isRule r ⌝ }
 {
-    let kind = kind_or_end(t, c);
-    if (kind == kind::ASYMMETRIC) | (kind == kind::OPTIONAL) {
+    if kinds::is_rule(kind_or_end(t, c)) {
         return Skip {
             there: true,
             next: next(t, c),
@@ -104,18 +107,6 @@ pub struct TypePlaces {
 pub enum TypeStep {
     Passed(TypePlaces, Cursor),
     Failed(u16, Cursor),
-}
-
-fn is_plain(kind: u16) -> bool
-    ensures { λ r. ⌜ r ≡ isPlain kind ⌝ }
-{
-    (kind == kind::BOOL)
-        | (kind == kind::BYTES)
-        | (kind == kind::F64)
-        | (kind == kind::S64)
-        | (kind == kind::STRING)
-        | (kind == kind::U64)
-        | (kind == kind::UNIT)
 }
 
 // Whether a dot stands at c and one more token after it.
@@ -173,6 +164,25 @@ fn parse_single(t: &[u8], c: Cursor) -> TypeStep
     }
 }
 
+// A type that does not start with `[`.
+fn parse_base(t: &[u8], c: Cursor) -> TypeStep
+    requires { ⌜ (Wf (now t) (c .at)) × (kindAt (ahead (now t) c) ≢ kLeftSquare) ⌝ }
+    ensures { λ r. ⌜ TypeRead (now (t .entry)) c parseType r ⌝ }
+{
+    let kind = kind_or_end(t, c);
+    if kind == 0 {
+        return TypeStep::Failed(9, c);
+    }
+    let second = next(t, c);
+    if kinds::is_plain(kind) {
+        return base_type(c, false, second);
+    }
+    if is_dotted(t, second) {
+        return parse_dotted(t, c);
+    }
+    parse_single(t, c)
+}
+
 // After `[` the inner type was read; `]` is due.
 fn parse_closing(t: &[u8], left: Cursor, inner: TypeStep) -> TypeStep
     requires { ⌜ Opened (now t) left inner ⌝ }
@@ -200,21 +210,11 @@ pub fn parse_type(t: &[u8], c: Cursor) -> TypeStep
     requires { ⌜ Wf (now t) (c .at) ⌝ }
     ensures { λ r. ⌜ TypeRead (now (t .entry)) c parseType r ⌝ }
 {
-    let kind = kind_or_end(t, c);
-    if kind == 0 {
-        return TypeStep::Failed(9, c);
+    if kind_or_end(t, c) != kind::LEFT_SQUARE {
+        return parse_base(t, c);
     }
-    let second = next(t, c);
-    if kind == kind::LEFT_SQUARE {
-        return parse_closing(t, c, parse_type(t, second));
-    }
-    if is_plain(kind) {
-        return base_type(c, false, second);
-    }
-    if is_dotted(t, second) {
-        return parse_dotted(t, c);
-    }
-    parse_single(t, c)
+    let inner = parse_type(t, next(t, c));
+    parse_closing(t, c, inner)
 }
 
 // Where a field's type stands, after the colon's place.
@@ -232,11 +232,10 @@ fn parse_type_part(t: &[u8], c: Cursor) -> PartStep
     requires { ⌜ Wf (now t) (c .at) ⌝ }
     ensures { λ r. ⌜ PartRead (now (t .entry)) c r ⌝ }
 {
-    let colon = skip_token(t, c, kind::COLON);
-    if !colon.there {
+    if kind_or_end(t, c) != kind::COLON {
         return PartStep::Passed(PartPlaces::Absent, c);
     }
-    match parse_type(t, colon.next) {
+    match parse_type(t, next(t, c)) {
         TypeStep::Passed(p, after) => PartStep::Passed(PartPlaces::Present(c.at, p), after),
         TypeStep::Failed(number, at) => PartStep::Failed(number, at),
     }
@@ -309,12 +308,6 @@ pub enum HeadStep {
     Failed(u16, Cursor),
 }
 
-fn is_keyword(kind: u16) -> bool
-    ensures { λ r. ⌜ r ≡ isKeyword kind ⌝ }
-{
-    (kind == kind::STRUCT) | (kind == kind::CHOICE)
-}
-
 fn name_number(keyword: u16) -> u16
     ensures { λ r. ⌜ r ≡ pick (eqb keyword kStruct) 2 3 ⌝ }
 {
@@ -334,7 +327,7 @@ pub fn parse_head(t: &[u8], c: Cursor) -> HeadStep
     if comment.there & (kind == 0) {
         return HeadStep::Failed(18, c);
     }
-    if !is_keyword(kind) {
+    if !kinds::is_keyword(kind) {
         return HeadStep::Failed(1, keyword);
     }
     let name = next(t, keyword);
@@ -375,12 +368,11 @@ pub fn parse_import(t: &[u8], c: Cursor) -> ImportStep
     ensures { λ r. ⌜ ImportRead (now (t .entry)) c r ⌝ }
 {
     let path = next(t, c);
-    let end = match consume_token(t, path, kind::PATH, 6) {
+    let alias = match consume_token(t, path, kind::PATH, 6) {
         TokenStep::Passed(after) => after,
         TokenStep::Failed(number, at) => return ImportStep::Failed(number, at),
     };
-    let alias = skip_token(t, end, kind::AS);
-    if !alias.there {
+    if kind_or_end(t, alias) != kind::AS {
         return ImportStep::Passed(
             ImportPlaces {
                 first: c.at,
@@ -388,17 +380,18 @@ pub fn parse_import(t: &[u8], c: Cursor) -> ImportStep
                 aliased: false,
                 last: path.at,
             },
-            end,
+            alias,
         );
     }
-    match consume_token(t, alias.next, kind::IDENTIFIER, 7) {
+    let name = next(t, alias);
+    match consume_token(t, name, kind::IDENTIFIER, 7) {
         TokenStep::Failed(number, at) => ImportStep::Failed(number, at),
         TokenStep::Passed(after) => ImportStep::Passed(
             ImportPlaces {
                 first: c.at,
                 path: path.at,
                 aliased: true,
-                last: alias.next.at,
+                last: name.at,
             },
             after,
         ),

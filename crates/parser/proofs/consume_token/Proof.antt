@@ -4,22 +4,12 @@ use Rattle.parser.proofs.Laws.{consumed, not-consumed}
 use borrow.Author.Needs.{needs}
 use Rattle.parser.proofs.consume_token.Statement.{statement}
 use Rattle.parser.proofs.consume_token.Tie as tie
-use Rattle.parser.proofs.consume_token.Reads as reads
-use Rattle.parser.proofs.consume_token.Lts as lts
-use Rattle.parser.proofs.kind_or_end.Reads as kind-or-end-reads
-use Rattle.parser.proofs.next.Reads as next-reads
-
-kind-or-end-requires : tie.Need-kind-or-end-requires
-kind-or-end-requires c κs = search needs
 
 returns : tie.Need-returns
-returns c = not-consumed (is (c .before .before .before .args .kind)) (c .before .before .before .pre .0) (rw (← c .before .kind-or-end .ensures) (ne-eqb _ _ (c .if1 .taken))) _
-
-next-requires : tie.Need-next-requires
-next-requires c κs = search needs
+returns c = not-consumed _ (is (c .before .before .before .args .kind)) (c .before .before .before .pre .0) (rw (← c .before .kind-or-end .ensures) (ne-eqb _ _ (c .if1 .taken)))
 
 returns-2 : tie.Need-returns-2
-returns-2 c = consumed (is (c .before .before .before .before .args .kind)) (c .next .ensures) (rw (← c .before .before .kind-or-end .ensures) (eq-eqb _ _ (c .before .if1 .left))) _
+returns-2 c = consumed _ (is (c .before .before .before .before .args .kind)) (c .next .ensures) (rw (← c .before .before .kind-or-end .ensures) (eq-eqb _ _ (c .before .if1 .left)))
 
 pub consume-token-spec : {M : Type 1} → statement M
-consume-token-spec = tie.close (tie.spec kind-or-end-requires returns next-requires returns-2)
+consume-token-spec = tie.close (tie.spec (λ c κs. search needs) returns (λ c κs. search needs) returns-2)

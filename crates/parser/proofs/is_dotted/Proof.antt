@@ -5,22 +5,9 @@ use Rattle.parser.specs.Steps.{ahead}
 use borrow.Author.Needs.{needs}
 use Rattle.parser.proofs.is_dotted.Statement.{statement}
 use Rattle.parser.proofs.is_dotted.Tie as tie
-use Rattle.parser.proofs.is_dotted.Reads as reads
-use Rattle.parser.proofs.is_dotted.Lts as lts
-use Rattle.parser.proofs.kind_or_end.Reads as kind-or-end-reads
-use Rattle.parser.proofs.next.Reads as next-reads
-
-kind-or-end-requires : tie.Need-kind-or-end-requires
-kind-or-end-requires c κs = search needs
 
 returns : tie.Need-returns
 returns c = no-dot (ahead (now (c .before .before .before .args .t)) (c .before .before .before .args .c)) (c .before .kind-or-end .ensures) (c .if1 .taken)
-
-next-requires : tie.Need-next-requires
-next-requires c κs = search needs
-
-kind-or-end-requires-2 : tie.Need-kind-or-end-requires-2
-kind-or-end-requires-2 c κs = search needs
 
 returns-2 : tie.Need-returns-2
 returns-2 c = rw (c .kind-or-end2 .ensures) (dot (c .before .next .ensures) (rw (← c .before .before .before .kind-or-end .ensures) (eq-eqb _ _ (c .before .before .if1 .left))))
@@ -28,4 +15,4 @@ returns-2 c = rw (c .kind-or-end2 .ensures) (dot (c .before .next .ensures) (rw 
 pub is-dotted-spec : {M : Type 1} → statement M
 is-dotted-spec =
     tie.close
-    (tie.spec kind-or-end-requires returns next-requires kind-or-end-requires-2 returns-2)
+    (tie.spec (λ c κs. search needs) returns (λ c κs. search needs) (λ c κs. search needs) returns-2)

@@ -1,9 +1,6 @@
 use Rattle.wire.proofs.Choice.{choice}
-use borrow.Author.Needs.{needs}
 use Rattle.parser.proofs.name_number.Statement.{statement}
 use Rattle.parser.proofs.name_number.Tie as tie
-use Rattle.parser.proofs.name_number.Reads as reads
-use Rattle.parser.proofs.name_number.Lts as lts
 
 returns : tie.Need-returns
 returns c = search choice

@@ -1,10 +1,6 @@
 use Rattle.parser.proofs.Laws.{inside, stepped}
-use borrow.Author.Needs.{needs}
 use Rattle.parser.proofs.next.Statement.{statement}
 use Rattle.parser.proofs.next.Tie as tie
-use Rattle.parser.proofs.next.Reads as reads
-use Rattle.parser.proofs.next.Lts as lts
-use Rattle.token.proofs.next_at.Reads as next-at-reads
 
 next-at-requires : tie.Need-next-at-requires
 next-at-requires c κs = (c .before .pre .0, inside _ _ (c .before .pre .1))

@@ -1,61 +1,29 @@
+use native.Mathlib.Omega.{arith}
+use borrow.Author.Tests.{eq-eqb, ne-eqb}
+use Rattle.parser.proofs.Imports.{path-fails, unaliased, alias-fails, aliased}
 use borrow.Author.Needs.{needs}
 use Rattle.parser.proofs.parse_import.Statement.{statement}
 use Rattle.parser.proofs.parse_import.Tie as tie
-use Rattle.parser.proofs.parse_import.Reads as reads
-use Rattle.parser.proofs.parse_import.Lts as lts
-use Rattle.parser.proofs.consume_token.Reads as consume-token-reads
-use Rattle.parser.proofs.next.Reads as next-reads
-use Rattle.parser.proofs.skip_token.Reads as skip-token-reads
-
-next-requires : tie.Need-next-requires
-next-requires c κs = search needs
-
-consume-token-requires : tie.Need-consume-token-requires
-consume-token-requires c κs = search needs
-
-enum-known-after : tie.Need-enum-known-after
-enum-known-after c = search needs
-
-enum-known-number : tie.Need-enum-known-number
-enum-known-number c = search needs
 
 returns : tie.Need-returns
-returns c = search needs
+returns c = path-fails (c .before .before .before .before .next .ensures) (rw (c .before .number .given .1) at (c .before .before .before .consume-token .ensures))
 
-skip-token-requires : tie.Need-skip-token-requires
-skip-token-requires c κs = search needs
+kind-or-end-requires : tie.Need-kind-or-end-requires
+kind-or-end-requires c κs = (rw (c .before .after .given .1) at (c .before .before .before .consume-token .ensures)) .read .wf
 
 returns-2 : tie.Need-returns-2
-returns-2 c = search needs
+returns-2 c = unaliased (c .before .before .before .before .before .before .next .ensures) (rw (c .before .before .before .after .given .1) at (c .before .before .before .before .before .consume-token .ensures)) (rw (← c .before .kind-or-end .ensures) (ne-eqb _ _ (c .if1 .taken)))
 
-consume-token-requires-2 : tie.Need-consume-token-requires-2
-consume-token-requires-2 c κs = search needs
-
-enum-known-number-2 : tie.Need-enum-known-number-2
-enum-known-number-2 c = search needs
-
-enum-known-after-2 : tie.Need-enum-known-after-2
-enum-known-after-2 c = search needs
+next-requires-2 : tie.Need-next-requires-2
+next-requires-2 c κs = ((rw (c .before .before .before .after .given .1) at (c .before .before .before .before .before .consume-token .ensures)) .read .wf, omega (arith, c .before .kind-or-end .ensures, c .if1 .left))
 
 returns-3 : tie.Need-returns-3
-returns-3 c = search needs
+returns-3 c = alias-fails (c .before .before .before .before .before .before .before .before .before .before .before .next .ensures) (rw (c .before .before .before .before .before .before .before .before .after .given .1) at (c .before .before .before .before .before .before .before .before .before .before .consume-token .ensures)) (c .before .before .before .before .next2 .ensures) (rw (← c .before .before .before .before .before .before .kind-or-end .ensures) (eq-eqb _ _ (c .before .before .before .before .before .if1 .left))) (rw (c .before .number2 .given .1) at (c .before .before .before .consume-token2 .ensures))
 
 returns-4 : tie.Need-returns-4
-returns-4 c = search needs
+returns-4 c = aliased (c .before .before .before .before .before .before .before .before .before .before .before .next .ensures) (rw (c .before .before .before .before .before .before .before .before .after .given .1) at (c .before .before .before .before .before .before .before .before .before .before .consume-token .ensures)) (c .before .before .before .before .next2 .ensures) (rw (← c .before .before .before .before .before .before .kind-or-end .ensures) (eq-eqb _ _ (c .before .before .before .before .before .if1 .left))) (rw (c .before .after2 .given .1) at (c .before .before .before .consume-token2 .ensures))
 
 pub parse-import-spec : {M : Type 1} → statement M
 parse-import-spec =
     tie.close
-    (tie.spec
-    next-requires
-    consume-token-requires
-    enum-known-after
-    enum-known-number
-    returns
-    skip-token-requires
-    returns-2
-    consume-token-requires-2
-    enum-known-number-2
-    enum-known-after-2
-    returns-3
-    returns-4)
+    (tie.spec (λ c κs. search needs) (λ c κs. search needs) (λ c. search needs) (λ c. search needs) returns kind-or-end-requires returns-2 next-requires-2 (λ c κs. search needs) (λ c. search needs) (λ c. search needs) returns-3 returns-4)

@@ -4,16 +4,6 @@ use Rattle.parser.proofs.Laws.{skipped, not-skipped}
 use borrow.Author.Needs.{needs}
 use Rattle.parser.proofs.skip_token.Statement.{statement}
 use Rattle.parser.proofs.skip_token.Tie as tie
-use Rattle.parser.proofs.skip_token.Reads as reads
-use Rattle.parser.proofs.skip_token.Lts as lts
-use Rattle.parser.proofs.kind_or_end.Reads as kind-or-end-reads
-use Rattle.parser.proofs.next.Reads as next-reads
-
-kind-or-end-requires : tie.Need-kind-or-end-requires
-kind-or-end-requires c κs = search needs
-
-next-requires : tie.Need-next-requires
-next-requires c κs = search needs
 
 returns : tie.Need-returns
 returns c = skipped (is (c .before .before .before .before .args .kind)) (c .next .ensures) (rw (← c .before .before .kind-or-end .ensures) (eq-eqb _ _ (c .before .if1 .taken)))
@@ -22,4 +12,4 @@ returns-2 : tie.Need-returns-2
 returns-2 c = not-skipped (is (c .before .before .before .args .kind)) (c .before .before .before .pre .0) (rw (← c .before .kind-or-end .ensures) (ne-eqb _ _ (c .if1 .left)))
 
 pub skip-token-spec : {M : Type 1} → statement M
-skip-token-spec = tie.close (tie.spec kind-or-end-requires next-requires returns returns-2)
+skip-token-spec = tie.close (tie.spec (λ c κs. search needs) (λ c κs. search needs) returns returns-2)
