@@ -94,6 +94,10 @@ stops : (end : ℕ) (before : List ImportTree) (ts : List Token) → (kindAt ts 
 stops end before [] n = refl
 stops end before (x ∷ xs) n = imports-end end before x xs (ne-eqb _ _ n)
 
+-- one more place
+pub filled : (items : List ℕ) (n at : ℕ) → n < length items → take (n + 1) (set items n at) ≡ take n items ++ (at ∷ [])
+filled items n at h = rw (add-one, take-suc-set items n at h)
+
 -- n places are collected, and the imports from c on, after those before, are still to come
 pub record Collecting (t : Bytes) (from : Cursor) (items₀ items : List ℕ) (n : ℕ) (c : Cursor) : Type 0 where
   pub before : List ImportTree
@@ -102,18 +106,20 @@ pub record Collecting (t : Bytes) (from : Cursor) (items₀ items : List ℕ) (n
   pub value : map (importAt t) (take n items) ++ importsAfter t before c .value ≡ importsFrom t from .value
   pub rest : importsAfter t before c .rest ≡ importsFrom t from .rest
   pub here : All (ImportHere t) (take n items)
-  pub room : n + length (ahead t c) ≤ length items
+  pub short : n + length (ahead t c) ≤ length (ahead t from)
+  pub room : length (ahead t from) ≤ length items
   pub size : length items ≡ length items₀
 
 pub collecting : {t : Bytes} {from : Cursor} {items : List ℕ} → Clear t from (importsFrom t from) → length (ahead t from) ≤ length items → Collecting t from items items 0 from
-collecting k h = record { before = []; wf = k .wf; errors = k .errors; value = refl; rest = refl; here = tt; room = omega arith; size = refl }
+collecting k h = record { before = []; wf = k .wf; errors = k .errors; value = refl; rest = refl; here = tt; short = omega arith; room = h; size = refl }
 
 module _ {t : Bytes} {from : Cursor} {items₀ items : List ℕ} {n : ℕ} {c : Cursor} (s : Collecting t from items₀ items n c) where
   pub collected : (kindAt (ahead t c) ≡ kImport → ⊥) → Collects t from items (record { count = n; next = c })
   collected k =
       let e = stops (lastEnd t) (s .before) (ahead t c) k in
       record {
-        few = omega (arith, s .room);
+        few = omega (arith, s .short, s .room);
+        short = s .short;
         here = s .here;
         trees = sym (append-nil _) ∙ rw e at (s .value);
         rest = rw e at (s .rest);
@@ -131,7 +137,7 @@ module _ {t : Bytes} {from : Cursor} {items₀ items : List ℕ} {n : ℕ} {c : 
     keyword = rw first at k
 
     pub room-left : n < length items
-    room-left = omega (arith, s .room, ap length first)
+    room-left = omega (arith, s .short, s .room, ap length first)
 
     pub broken : {number : ℕ} {d : Cursor} → Reads t (past t c) (parseImport (tokAt t (c .at))) (fail number) d → ⊥
     broken r =
@@ -151,30 +157,32 @@ module _ {t : Bytes} {from : Cursor} {items₀ items : List ℕ} {n : ℕ} {c : 
 
       pub collects-more : Collecting t from items₀ (set items n (c .at)) (n + 1) after
       collects-more =
-          let filled : take (n + 1) (set items n (c .at)) ≡ take n items ++ (c .at ∷ []) = rw (add-one, take-suc-set items n (c .at) room-left) in
+          let f = filled items n (c .at) room-left in
           let l = length-set items n (c .at) in
           record {
             before = places.importAt t i ∷ s .before;
             wf = p .read .wf;
             errors = both-nil (importErrors (s .before) (places.importAt t i)) _ (rw next at (s .errors)) .1;
-            value = rw (filled, map-append, tree-is (import-here .read) p, append-assoc) (rw next at (s .value));
+            value = rw (f, map-append, tree-is (import-here .read) p, append-assoc) (rw next at (s .value));
             rest = rw next at (s .rest);
-            here = rw filled (each-append (ImportHere t) (take n items) (c .at ∷ []) (s .here) (import-here, tt));
-            room = omega (arith, s .room, ap length first, shrinks);
+            here = rw f (each-append (ImportHere t) (take n items) (c .at ∷ []) (s .here) (import-here, tt));
+            short = omega (arith, s .short, ap length first, shrinks);
+            room = omega (arith, s .room, l);
             size = l ∙ s .size;
           }
 
--- Writing.
-pub record Writing (t : Bytes) (items : List ℕ) (o₀ : Bytes) (a₀ : ℕ) (o : Bytes) (a i : ℕ) : Type 0 where
-  pub left : Rest o a (encodeImports (map (meaningAt t) (drop i items))) o₀ a₀ (encodeImports (map (meaningAt t) items))
+-- Writing a list, one element after the other: what is left of it is still to be written.
+pub record Writing (bytes : List ℕ → Bytes) (items : List ℕ) (o₀ : Bytes) (a₀ : ℕ) (o : Bytes) (a i : ℕ) : Type 0 where
+  pub left : Rest o a (bytes (drop i items)) o₀ a₀ (bytes items)
   pub size : length o ≡ length o₀
 
-module _ {t : Bytes} {items : List ℕ} {o₀ : Bytes} {a₀ : ℕ} {o : Bytes} {a i : ℕ} (s : Writing t items o₀ a₀ o a i) where
-  pub wrote-one : i < length items → {o′ : Bytes} {r : ℕ} → Wrote o a (encodeImport (meaningAt t (getD items i 0))) o′ r → Writing t items o₀ a₀ o′ r (i + 1)
-  wrote-one h w = record { left = rest-step w (s .left) (rw (add-one, drop-cons items i 0 h)); size = wrote-length w ∙ s .size }
+module _ {bytes : List ℕ → Bytes} {items : List ℕ} {o₀ : Bytes} {a₀ : ℕ} {o : Bytes} {a i : ℕ} (s : Writing bytes items o₀ a₀ o a i) where
+  pub wrote-one : i < length items → {one o′ : Bytes} {r : ℕ} → bytes (getD items i 0 ∷ drop (suc i) items) ≡ one ++ bytes (drop (suc i) items) → Wrote o a one o′ r
+      → Writing bytes items o₀ a₀ o′ r (i + 1)
+  wrote-one h e w = record { left = rest-step w (s .left) (rw (add-one, drop-cons items i 0 h) e); size = wrote-length w ∙ s .size }
 
-  pub wrote-all : length items ≤ i → Wrote o₀ a₀ (encodeImports (map (meaningAt t) items)) o a
-  wrote-all h = rest-none (s .left) (rw (drop-of-length-le items h))
+  pub wrote-all : length items ≤ i → bytes [] ≡ [] → Wrote o₀ a₀ (bytes items) o a
+  wrote-all h e = rest-none (s .left) (rw (drop-of-length-le items h) e)
 
 -- In order.
 pub all-items : (t : Bytes) (ps : List ℕ) → All (NamedHere t) ps → Items t Name ps

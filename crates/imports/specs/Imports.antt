@@ -1,5 +1,5 @@
 -- The imports that are read from a cursor on, their places, and their records in a schema table.
-use Prim.Native.Nat.{ℕ, _≤_}
+use Prim.Native.Nat.{ℕ, _+_, _≤_}
 use mathlib.Core.Path.{_≡_}
 use mathlib.Core.List.{List, [], map}
 use lib.ListN.{length, take}
@@ -9,7 +9,7 @@ use Rattle.token.specs.Token.{endOf}
 use Rattle.token.specs.Places.{tokAt, tokensFrom, Wf}
 use Rattle.schema.specs.Ast.{Import}
 use Rattle.schema.specs.Kind.{sImport}
-use Rattle.schema.specs.Encode.{encodeRecord, importPayload}
+use Rattle.schema.specs.Encode.{encodeRecord, importPayload, encodeImports}
 use Rattle.grammar.specs.Tree.{ImportTree, Is, All}
 use Rattle.grammar.specs.Meaning.{importOf}
 use Rattle.grammar.specs.Condition.{Named}
@@ -44,6 +44,7 @@ pub record NamedHere (t : Bytes) (at : ℕ) : Type 0 where
 -- the first items are the places of the imports from c on
 pub record Collects (t : Bytes) (c : Cursor) (items : List ℕ) (r : Collected) : Type 0 where
   pub few : r .count ≤ length items
+  pub short : r .count + length (ahead t (r .next)) ≤ length (ahead t c)
   pub here : All (ImportHere t) (take (r .count) items)
   pub trees : map (importAt t) (take (r .count) items) ≡ importsFrom t c .value
   pub rest : ahead t (r .next) ≡ importsFrom t c .rest
@@ -54,3 +55,7 @@ meaningAt t at = importOf (importAt t at)
 
 abbrev pub encodeImport : Import → Bytes
 encodeImport i = encodeRecord sImport (i .range) (importPayload i)
+
+-- the records of the imports at these places
+abbrev pub importsAt : Bytes → List ℕ → Bytes
+importsAt t ps = encodeImports (map (meaningAt t) ps)

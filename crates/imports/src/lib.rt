@@ -9,7 +9,7 @@ ghost use Rattle.grammar.specs.Tree.{All};
 ghost use Rattle.grammar.specs.Sort.{sortBy};
 ghost use Rattle.grammar.specs.Meaning.{comesBefore};
 ghost use Rattle.parser.specs.Steps.{ahead};
-ghost use Rattle.imports.specs.Imports.{importsFrom, Clear, NamedHere, Collects, meaningAt, encodeImport};
+ghost use Rattle.imports.specs.Imports.{importsFrom, Clear, NamedHere, Collects, meaningAt, encodeImport, importsAt};
 use parser::Cursor;
 use parser::ImportStep;
 use sorted::Key;
@@ -55,7 +55,7 @@ fn put_import(out: &mut [u8], o: usize, t: &[u8], at: usize) -> usize
 
 fn put_each(out: &mut [u8], o: usize, t: &[u8], items: &[u64]) -> usize
     requires { ⌜ All (NamedHere (now t)) (now items) ⌝ }
-    ensures { λ r. ⌜ Wrote (now (out .entry)) o (encodeImports (map (meaningAt (now (t .entry))) (now (items .entry)))) (now (out .exit)) r ⌝ }
+    ensures { λ r. ⌜ Wrote (now (out .entry)) o (importsAt (now (t .entry)) (now (items .entry))) (now (out .exit)) r ⌝ }
 {
     let mut a = o;
     let mut i: usize = 0;
