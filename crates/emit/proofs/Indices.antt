@@ -6,18 +6,19 @@ use mathlib.Core.Option.{Option, none, some}
 use mathlib.Core.List.{List, [], _∷_, _++_, map, map-append, map-map, append-nil, append-assoc}
 use native.Mathlib.Omega.{arith}
 use lib.Dec.{eqb, ltb}
-use lib.ListN.{length, take, set, length-set}
+use lib.ListN.{length, take, set, length-set, length-map}
 use lib.Seq.{length-take-le}
 use borrow.Author.Tests.{eq-eqb, ne-eqb}
 use Rattle.wire.specs.Bytes.{Bytes}
 use Rattle.wire.specs.Put.{Wrote}
-use Rattle.wire.specs.Record.{recordBytes}
+use Rattle.wire.specs.Record.{headBytes, recordBytes}
 use Rattle.token.specs.Token.{Token}
 use Rattle.token.specs.Kind.{kDeleted, kInteger}
 use Rattle.token.specs.Places.{tokAt, nextAt, Wf}
 use Rattle.token.proofs.Walk.{integer-size, next-is}
 use Rattle.schema.specs.Kind.{sDeleted}
 use Rattle.schema.specs.Encode.{indices, encodeDeleted}
+use Rattle.schema.proofs.Parts.{indices-length}
 use Rattle.grammar.specs.Tree.{DeletedPart, All}
 use Rattle.grammar.specs.Sort.{sortBy}
 use Rattle.grammar.specs.Meaning.{numberOf}
@@ -26,9 +27,12 @@ use Rattle.grammar.specs.Condition.{indexErrors}
 use Rattle.grammar.specs.Reading.{is, front, skip, Reading, parseDeleted}
 use Rattle.parser.specs.Steps.{ahead, Stepped}
 use Rattle.parser.specs.declared.Cursor.{Cursor}
-use Rattle.sorted.specs.Item.{IsInteger, IsItem, Items}
+use Rattle.sorted.specs.Item.{itemBefore, IsInteger, IsItem, Items}
 use Rattle.sorted.specs.declared.Key.the-variants.{Index}
 use Rattle.sorted.proofs.Each.{each-append}
+use Rattle.sorted.proofs.Halving.{sort-length}
+use Rattle.sorted.proofs.Theorems.{indices-sorted}
+use Rattle.records.proofs.Laws.{put-record}
 use Rattle.imports.specs.declared.Collected.{Collected}
 use Rattle.imports.proofs.Laws.{filled}
 use Rattle.emit.specs.Emits.{Emits}
@@ -116,9 +120,17 @@ pub no-indices : (t : Bytes) (ps : List ℕ) → length ps ≡ 0 → encodeDelet
 no-indices t [] z = refl
 no-indices t (p ∷ ps) z = absurd (omega arith)
 
-pub some-indices : (ns : List ℕ) → (length ns ≡ 0 → ⊥) → recordBytes sDeleted 0 0 (indices ns) ≡ encodeDeleted ns
+some-indices : (ns : List ℕ) → (length ns ≡ 0 → ⊥) → recordBytes sDeleted 0 0 (indices ns) ≡ encodeDeleted ns
 some-indices [] n = absurd (n refl)
 some-indices (x ∷ ns) n = refl
+
+pub indices-written : (t : Bytes) (items : List ℕ) {items′ : List ℕ} {o : Bytes} {at : ℕ} {o₁ o₂ : Bytes} {a r : ℕ} → (length items ≡ 0 → ⊥) → items′ ≡ sortBy (itemBefore t Index) items
+    → Wrote o at (headBytes (12 + 8 * length items) sDeleted 0 0) o₁ a → Wrote o₁ a (indices (map (numberAt t) items′)) o₂ r
+    → Wrote o at (encodeDeleted (sortBy ltb (map (numberAt t) items))) o₂ r
+indices-written t items {items′} n e p q =
+    let ns = map (numberAt t) items′ in
+    let k : length ns ≡ length items = length-map items′ (numberAt t) ∙ ap length e ∙ sort-length (itemBefore t Index) items in
+    rw (← indices-sorted t items, ← e) (rw (some-indices ns λ z. n (sym k ∙ z)) at (put-record sDeleted 0 0 p q (omega (arith, indices-length ns, k))))
 
 -- What stands before `}`.
 pub no-deleted : {t : Bytes} {c : Cursor} {o : Bytes} {at : ℕ} → Wf t (c .at) → (kindAt (ahead t c) ≡ kDeleted → ⊥) → Wrote o at [] o at

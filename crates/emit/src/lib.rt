@@ -16,7 +16,6 @@ ghost use Rattle.sorted.specs.Item.{IsInteger};
 ghost use Rattle.imports.specs.Imports.{Clear};
 ghost use Rattle.emit.specs.Emits.{Emits, Before, Room, fieldsFrom, fieldsBytes, declarationFrom, declarationsFrom, declarationsBytes, isOther, Opening, Readable};
 ghost use Rattle.emit.specs.Indices.{numberAt, Integers, Sortable, deletedBytes};
-
 use imports::Collected;
 use parser::Cursor;
 use parser::FieldStep;
@@ -97,7 +96,14 @@ fn put_indices(out: &mut [u8], o: usize, t: &[u8], items: &mut [u64], spare: &mu
     put_numbers(out, a, t, items)
 }
 
-fn put_deleted(out: &mut [u8], o: usize, t: &[u8], c: Cursor, items: &mut [u64], spare: &mut [u64]) -> Emitted
+fn put_deleted(
+    out: &mut [u8],
+    o: usize,
+    t: &[u8],
+    c: Cursor,
+    items: &mut [u64],
+    spare: &mut [u64],
+) -> Emitted
     requires { ⌜ (Wf (now t) (c .at)) × (Room (ahead (now t) c) (now items) (now spare)) ⌝ }
     ensures { λ r. ⌜ Emits (now (t .entry)) (now (out .entry)) o deletedBytes (parseDeleted (ahead (now (t .entry)) c)) (now (out .exit)) r ⌝ }
 {
@@ -130,7 +136,14 @@ fn find_right(t: &[u8], from: Cursor) -> Cursor
 }
 
 // A declaration's own record stands before its fields and has the range up to its `}`, which is the first one from its body on.
-fn put_declaration(out: &mut [u8], o: usize, t: &[u8], c: Cursor, items: &mut [u64], spare: &mut [u64]) -> Emitted
+fn put_declaration(
+    out: &mut [u8],
+    o: usize,
+    t: &[u8],
+    c: Cursor,
+    items: &mut [u64],
+    spare: &mut [u64],
+) -> Emitted
     requires { ⌜ (Clear (now t) c (declarationFrom (now t) c)) × (Room (ahead (now t) c) (now items) (now spare)) ⌝ }
     ensures { λ r. ⌜ Emits (now (t .entry)) (now (out .entry)) o declarationsBytes (declarationFrom (now (t .entry)) c) (now (out .exit)) r ⌝ }
 {
@@ -147,7 +160,14 @@ fn put_declaration(out: &mut [u8], o: usize, t: &[u8], c: Cursor, items: &mut [u
     }
 }
 
-fn put_declarations(out: &mut [u8], o: usize, t: &[u8], from: Cursor, items: &mut [u64], spare: &mut [u64]) -> usize
+fn put_declarations(
+    out: &mut [u8],
+    o: usize,
+    t: &[u8],
+    from: Cursor,
+    items: &mut [u64],
+    spare: &mut [u64],
+) -> usize
     requires { ⌜ (Clear (now t) from (declarationsFrom (now t) from)) × (Room (ahead (now t) from) (now items) (now spare)) ⌝ }
     ensures { λ r. ⌜ Wrote (now (out .entry)) o (declarationsBytes (declarationsFrom (now (t .entry)) from .value)) (now (out .exit)) r ⌝ }
 {
@@ -168,17 +188,29 @@ fn skip_opening(t: &[u8]) -> Skip
 {
     let c = Cursor { at: 0 };
     if kind_or_end(t, c) != kind::COMMENT {
-        return Skip { there: false, next: c };
+        return Skip {
+            there: false,
+            next: c,
+        };
     }
     let past = next(t, c);
     if !kinds::is_keyword(kind_or_end(t, past)) {
-        return Skip { there: true, next: past };
+        return Skip {
+            there: true,
+            next: past,
+        };
     }
     let at = past.at;
     if token::end_at(t, 0) as u64 + 1 < token::start_at(t, at) as u64 {
-        return Skip { there: true, next: past };
+        return Skip {
+            there: true,
+            next: past,
+        };
     }
-    Skip { there: false, next: c }
+    Skip {
+        there: false,
+        next: c,
+    }
 }
 
 // The schema table of t; `items` and `spare` are lent for the work.

@@ -5,13 +5,8 @@ use Rattle.emit.proofs.Walks.{stepped-less}
 use Prim.Native.Nat.{_-_}
 use lib.ListN.{length}
 use Rattle.emit.proofs.Indices.{Gathering, gathering, gathered, gather-room, gather-more}
-use borrow.Author.Needs.{needs}
 use Rattle.emit.proofs.collect_integers.Statement.{statement}
 use Rattle.emit.proofs.collect_integers.Tie as tie
-use Rattle.emit.proofs.collect_integers.Reads as reads
-use Rattle.emit.proofs.collect_integers.Lts as lts
-use Rattle.parser.proofs.kind_or_end.Reads as kind-or-end-reads
-use Rattle.parser.proofs.next.Reads as next-reads
 
 abbrev Inv-loop : tie.InvT-loop
 Inv-loop t items₀ n₀ c₀ items n c = Gathering t c₀ items₀ items n c
@@ -55,16 +50,4 @@ returns c = gathered (c .before .before .loop .inv) (λ z. c .if1 .left (c .befo
 pub collect-integers-spec : {M : Type 1} → statement M
 collect-integers-spec =
     tie.close
-    (tie.spec
-    Inv-loop
-    μ-loop
-    loop-holds
-    kind-or-end-requires
-    mul-items
-    slice-write-items
-    add-n
-    next-requires
-    loop-less
-    loop-again
-    same-length
-    returns)
+    (tie.spec Inv-loop μ-loop loop-holds kind-or-end-requires mul-items slice-write-items add-n next-requires loop-less loop-again same-length returns)

@@ -3,13 +3,8 @@ use native.Mathlib.Omega.{arith}
 use Prim.Native.Nat.{_-_}
 use lib.ListN.{length}
 use Rattle.emit.proofs.Walks.{Finding, found-end, found-right, find-on, stepped-less}
-use borrow.Author.Needs.{needs}
 use Rattle.emit.proofs.find_right.Statement.{statement}
 use Rattle.emit.proofs.find_right.Tie as tie
-use Rattle.emit.proofs.find_right.Reads as reads
-use Rattle.emit.proofs.find_right.Lts as lts
-use Rattle.parser.proofs.kind_or_end.Reads as kind-or-end-reads
-use Rattle.parser.proofs.next.Reads as next-reads
 
 abbrev Inv-loop : tie.InvT-loop
 Inv-loop t c₀ c = Finding t c₀ c
@@ -41,13 +36,4 @@ loop-again c = find-on (c .before .before .before .before .loop .inv) (λ z. c .
 pub find-right-spec : {M : Type 1} → statement M
 find-right-spec =
     tie.close
-    (tie.spec
-    Inv-loop
-    μ-loop
-    loop-holds
-    kind-or-end-requires
-    returns
-    returns-2
-    next-requires
-    loop-less
-    loop-again)
+    (tie.spec Inv-loop μ-loop loop-holds kind-or-end-requires returns returns-2 next-requires loop-less loop-again)

@@ -1,58 +1,29 @@
+use lib.Seq.{length-take-le}
+use mathlib.Core.Path.{sym, ap, _∙_}
+use native.Mathlib.Omega.{arith}
+use lib.ListN.{length}
+use Rattle.wire.proofs.Laws.{wrote-none}
+use Rattle.emit.proofs.Indices.{sortable, no-deleted, some-deleted}
 use borrow.Author.Needs.{needs}
 use Rattle.emit.proofs.put_deleted.Statement.{statement}
 use Rattle.emit.proofs.put_deleted.Tie as tie
-use Rattle.emit.proofs.put_deleted.Reads as reads
-use Rattle.emit.proofs.put_deleted.Lts as lts
-use Rattle.emit.proofs.collect_integers.Reads as collect-integers-reads
-use Rattle.emit.proofs.put_indices.Reads as put-indices-reads
-use Rattle.parser.proofs.kind_or_end.Reads as kind-or-end-reads
-use Rattle.parser.proofs.next.Reads as next-reads
-
-kind-or-end-requires : tie.Need-kind-or-end-requires
-kind-or-end-requires c κs = search needs
 
 returns : tie.Need-returns
-returns c = search needs
-
-next-requires : tie.Need-next-requires
-next-requires c κs = search needs
+returns c = no-deleted (c .before .before .before .before .before .before .pre .0) (λ z. c .if1 .taken (c .before .kind-or-end .ensures ∙ z)) wrote-none
 
 collect-integers-requires : tie.Need-collect-integers-requires
-collect-integers-requires c κs = search needs
-
-slice-relend-prefix-put-indices : tie.Need-slice-relend-prefix-put-indices
-slice-relend-prefix-put-indices c = search needs
+collect-integers-requires c κs = (c .before .next .ensures .wf, omega (arith, ap length (c .before .next .ensures .first), c .before .before .before .before .before .before .before .before .pre .1 .list))
 
 slice-aggregate-put-indices : tie.Need-slice-aggregate-put-indices
-slice-aggregate-put-indices c = search needs
+slice-aggregate-put-indices c = sym (length-take-le _ _ (c .before .before .before .before .collect-integers .ensures .few))
 
 put-indices-requires : tie.Need-put-indices-requires
-put-indices-requires c κs = search needs
-
-same-length : tie.Need-same-length
-same-length c = search needs
-
-same-length-2 : tie.Need-same-length-2
-same-length-2 c = search needs
-
-same-length-3 : tie.Need-same-length-3
-same-length-3 c = search needs
+put-indices-requires c κs = sortable (c .before .before .before .before .before .collect-integers .ensures) (omega (arith, ap length (c .before .before .before .before .before .before .before .next .ensures .first), c .before .before .before .before .before .before .before .before .before .before .before .before .before .before .pre .1 .work))
 
 returns-2 : tie.Need-returns-2
-returns-2 c = search needs
+returns-2 c = some-deleted (sym (c .before .before .before .before .before .before .before .before .before .before .before .before .before .before .before .before .before .kind-or-end .ensures) ∙ c .before .before .before .before .before .before .before .before .before .before .before .before .before .before .before .before .if1 .left) (c .before .before .before .before .before .before .before .before .before .before .before .before .before .before .before .next .ensures) (c .before .before .before .before .before .before .before .before .before .before .before .before .before .collect-integers .ensures) (c .before .before .before .before .before .before .before .put-indices .ensures)
 
 pub put-deleted-spec : {M : Type 1} → statement M
 put-deleted-spec =
     tie.close
-    (tie.spec
-    kind-or-end-requires
-    returns
-    next-requires
-    collect-integers-requires
-    slice-relend-prefix-put-indices
-    slice-aggregate-put-indices
-    put-indices-requires
-    same-length
-    same-length-2
-    same-length-3
-    returns-2)
+    (tie.spec (λ c κs. search needs) returns (λ c κs. search needs) collect-integers-requires (λ c. search needs) slice-aggregate-put-indices put-indices-requires (λ c. search needs) (λ c. search needs) (λ c. search needs) returns-2)

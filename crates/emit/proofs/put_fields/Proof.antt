@@ -7,11 +7,6 @@ use Rattle.emit.proofs.Walks.{is-end, Fielding, fielding, field-here, f
 use borrow.Author.Needs.{needs}
 use Rattle.emit.proofs.put_fields.Statement.{statement}
 use Rattle.emit.proofs.put_fields.Tie as tie
-use Rattle.emit.proofs.put_fields.Reads as reads
-use Rattle.emit.proofs.put_fields.Lts as lts
-use Rattle.parser.proofs.kind_or_end.Reads as kind-or-end-reads
-use Rattle.parser.proofs.parse_field.Reads as parse-field-reads
-use Rattle.records.proofs.put_field.Reads as put-field-reads
 
 abbrev Inv-loop : tie.InvT-loop
 Inv-loop out₀ o t a₀ c₀ out a c = Fielding t c₀ out₀ o out a c
@@ -37,12 +32,6 @@ returns c = fields-written (c .before .before .loop .inv) (is-end (c .before .be
 parse-field-requires : tie.Need-parse-field-requires Inv-loop μ-loop
 parse-field-requires c κs = c .before .before .loop .inv .clear .wf
 
-enum-known-f : tie.Need-enum-known-f Inv-loop μ-loop
-enum-known-f c = search needs
-
-enum-told : tie.Need-enum-told Inv-loop μ-loop
-enum-told c = search needs
-
 same-length-2 : tie.Need-same-length-2 Inv-loop μ-loop
 same-length-2 c = c .before .before .before .before .before .loop .inv .size
 
@@ -61,18 +50,4 @@ loop-again c = field-written (c .before .before .before .before .before .before 
 pub put-fields-spec : {M : Type 1} → statement M
 put-fields-spec =
     tie.close
-    (tie.spec
-    Inv-loop
-    μ-loop
-    loop-holds
-    kind-or-end-requires
-    same-length
-    returns
-    parse-field-requires
-    enum-known-f
-    enum-told
-    same-length-2
-    returns-2
-    put-field-requires
-    loop-less
-    loop-again)
+    (tie.spec Inv-loop μ-loop loop-holds kind-or-end-requires same-length returns parse-field-requires (λ c. search needs) (λ c. search needs) same-length-2 returns-2 put-field-requires loop-less loop-again)

@@ -11,10 +11,6 @@ use Rattle.emit.specs.Indices.{numberAt}
 use borrow.Author.Needs.{needs}
 use Rattle.emit.proofs.put_numbers.Statement.{statement}
 use Rattle.emit.proofs.put_numbers.Tie as tie
-use Rattle.emit.proofs.put_numbers.Reads as reads
-use Rattle.emit.proofs.put_numbers.Lts as lts
-use Rattle.token.proofs.integer_at.Reads as integer-at-reads
-use Rattle.wire.proofs.put_u64.Reads as put-u64-reads
 
 abbrev Inv-loop : tie.InvT-loop
 Inv-loop out₀ o t items a₀ i₀ out a i = Writing (λ ps. indices (map (numberAt t) ps)) items out₀ o out a i
@@ -25,23 +21,8 @@ abbrev μ-loop : tie.MeasureT-loop
 loop-holds : tie.Need-loop-holds Inv-loop μ-loop
 loop-holds c = record { left = rest-all; size = refl }
 
-mul-integer-at : tie.Need-mul-integer-at Inv-loop μ-loop
-mul-integer-at c = search needs
-
-shared-slice-read-integer-at : tie.Need-shared-slice-read-integer-at Inv-loop μ-loop
-shared-slice-read-integer-at c = search needs
-
 integer-at-requires : tie.Need-integer-at-requires Inv-loop μ-loop
 integer-at-requires c κs = each-at (IsInteger (c .before .before .before .before .before .before .before .args .t .now)) (c .before .before .before .before .before .before .before .args .items .now) (c .before .before .before .loop .i) 0 (c .before .before .before .before .before .before .before .pre) (c .before .before .loop-test .taken)
-
-put-u64-requires : tie.Need-put-u64-requires Inv-loop μ-loop
-put-u64-requires c κs = search needs
-
-add-i : tie.Need-add-i Inv-loop μ-loop
-add-i c = search needs
-
-loop-less : tie.Need-loop-less Inv-loop μ-loop
-loop-less c = search needs
 
 loop-again : tie.Need-loop-again Inv-loop μ-loop
 loop-again c = wrote-one (c .before .before .before .before .before .before .before .loop .inv) (c .before .before .before .before .before .before .loop-test .taken) refl (rw (c .before .before .before .integer-at .ensures) at (c .before .before .put-u64 .ensures))
@@ -55,16 +36,4 @@ returns c = wrote-all (c .before .loop .inv) (c .loop-test .left) refl
 pub put-numbers-spec : {M : Type 1} → statement M
 put-numbers-spec =
     tie.close
-    (tie.spec
-    Inv-loop
-    μ-loop
-    loop-holds
-    mul-integer-at
-    shared-slice-read-integer-at
-    integer-at-requires
-    put-u64-requires
-    add-i
-    loop-less
-    loop-again
-    same-length
-    returns)
+    (tie.spec Inv-loop μ-loop loop-holds (λ c. search needs) (λ c. search needs) integer-at-requires (λ c κs. search needs) (λ c. search needs) (λ c. search needs) loop-again same-length returns)
