@@ -24,9 +24,11 @@ afterName = afterParagraph
 unfoldable pub isSized : Bytes → Bool
 isSized p = leb 2 (length p) && leb (2 + u16At p 0) (length p)
 
+-- such a name first
 unfoldable pub isNamed : Bytes → Bool
 isNamed p = isSized p && isName (nameOf p)
 
+-- 102: a name and a path
 unfoldable pub isImport : Bytes → Bool
 isImport p = isNamed p && isPath (afterName p)
 
@@ -34,10 +36,11 @@ isImport p = isNamed p && isPath (afterName p)
 unfoldable pub isCounted : Bytes → Bool
 isCounted p = leb 2 (length p) && (areParagraphs 32 (drop 2 p) && eqb (u16At p 0) (length (paragraphsOf (drop 2 p))))
 
+-- 103, 104: a name and a comment
 unfoldable pub isDeclaration : Bytes → Bool
 isDeclaration p = isNamed p && isCounted (afterName p)
 
--- a rule, an index, then what a declaration has
+-- 105: a rule, an index, then what a declaration has
 unfoldable pub isField : Bytes → Bool
 isField p = leb 9 (length p) && (leb (getD p 0 0) 2 && isDeclaration (drop 9 p))
 
@@ -49,17 +52,19 @@ indicesIn (suc n) p = u64At p 0 ∷ indicesIn n (drop 8 p)
 unfoldable pub indicesOf : Bytes → List ℕ
 indicesOf p = indicesIn (length p / 8) p
 
--- at least one index
+-- 106: indices, at least one, ascending
 unfoldable pub isDeleted : Bytes → Bool
 isDeleted p = leb 1 (length p) && (eqb (length p % 8) 0 && isChain ltb (indicesOf p))
 
+-- 108: the token kind of a plain type
 unfoldable pub isPlainType : Bytes → Bool
 isPlainType p = eqb (length p) 2 && isPlain (u16At p 0)
 
--- a length of zero stands for no import
+-- 109: the name of an import, of which a length of zero stands for none, and of a type
 unfoldable pub isCustom : Bytes → Bool
 isCustom p = isSized p && ((eqb (u16At p 0) 0 || isName (nameOf p)) && isName (afterName p))
 
+-- a type's payload, by its kind; an array's is empty
 unfoldable pub isTypePayload : ℕ → Bytes → Bool
 isTypePayload kind p =
     pick (eqb kind sArray) (eqb (length p) 0)
@@ -67,6 +72,7 @@ isTypePayload kind p =
     (pick (eqb kind sCustom) (isCustom p)
     false))
 
+-- a payload, by its kind; no other kind stands in a schema table
 unfoldable pub isPayload : ℕ → Bytes → Bool
 isPayload kind p =
     pick (eqb kind sComment) (isComment p)

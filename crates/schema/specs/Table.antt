@@ -65,9 +65,11 @@ isRight last row k p = mayFollow last k && (isPayload k p && leb (rowAfter row k
 unfoldable pub isLater : ℕ → Bytes → ℕ → Bytes → Bool
 isLater last p k q = pick (eqb k sImport && eqb last sImport) (isBefore (nameOf p) (nameOf q)) true
 
+-- a record is right after another
 unfoldable pub isNext : Token → ℕ → Token → Bool
 isNext last row r = isRight (last .kind) row (r .kind) (r .payload) && isLater (last .kind) (last .payload) (r .kind) (r .payload)
 
+-- all of these are, and the last may end the table
 abbrev pub areNext : Token → ℕ → List Token → Bool
 areNext last row [] = mayFollow (last .kind) 0
 areNext last row (r ∷ rs) = isNext last row r && areNext r (rowAfter row (r .kind)) rs

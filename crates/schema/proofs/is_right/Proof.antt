@@ -1,4 +1,5 @@
-use Rattle.wire.proofs.Choice.{choice}
+use mathlib.Core.Path.{sym, _∙_}
+use borrow.Author.Tests.{not-true, not-false}
 use Rattle.schema.specs.Table.{isRight}
 use borrow.Author.Needs.{needs}
 use Rattle.schema.proofs.is_right.Statement.{statement}
@@ -6,16 +7,21 @@ use Rattle.schema.proofs.is_right.Tie as tie
 
 returns : tie.Need-returns
 unfolding isRight
-returns c = rw (← c .before .may-follow .ensures) (search choice)
+returns c = rw (sym (c .before .may-follow .ensures) ∙ not-true _ (c .if1 .taken))
 
 returns-2 : tie.Need-returns-2
 unfolding isRight
-returns-2 c = rw (← c .before .before .before .may-follow .ensures, ← c .before .is-payload .ensures) (search choice)
+returns-2 c =
+    rw (sym (c .before .before .before .may-follow .ensures) ∙ not-false _ (c .before .before .if1 .left), sym (c .before .is-payload .ensures) ∙ not-true _ (c .if2 .taken))
 
 returns-3 : tie.Need-returns-3
 unfolding isRight
 returns-3 c =
-    rw (← c .before .before .before .before .may-follow .ensures, ← c .before .before .is-payload .ensures, ← c .row-after .ensures) (search choice)
+    rw (
+      sym (c .before .before .before .before .may-follow .ensures) ∙ not-false _ (c .before .before .before .if1 .left),
+      sym (c .before .before .is-payload .ensures) ∙ not-false _ (c .before .if2 .left),
+      ← c .row-after .ensures,
+    )
 
 pub is-right-spec : {M : Type 1} → statement M
 is-right-spec = tie.close (tie.spec (λ c κs. search needs) returns (λ c κs. search needs) returns-2 (λ c κs. search needs) returns-3)

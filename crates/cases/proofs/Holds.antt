@@ -1,0 +1,23 @@
+-- Every marked case is told as document 01 says.
+use mathlib.Core.Path.{_≡_, refl}
+use mathlib.Core.List.{List, map, flatMap}
+use Rattle.wire.specs.Bytes.{Bytes, bytes}
+use Rattle.wire.specs.Le.{leBytes, leNumber, leAt}
+use Rattle.wire.specs.Pick.{pick}
+use Rattle.wire.specs.Decimal.{digits, decimal}
+use Rattle.wire.specs.Record.{headBytes, recordBytes}
+use Rattle.identifier.specs.Byte.{lowerOf, upperOf}
+use Rattle.identifier.specs.Forms.{snakeOf, pascalOf}
+use Rattle.identifier.specs.Order.{nameOrder, sameName, isBefore}
+use Rattle.identifier.specs.Survive.{survives}
+use Rattle.stem.specs.Stem.{lastPart, isParent, cut, stemOf, importName}
+use Rattle.token.specs.Payload.{isIdentifier, isPath, isInteger, isParagraph, paragraphOf, afterParagraph, areParagraphs, isComment, isPayload, paragraphsOf, paragraphBytes}
+use Rattle.token.specs.Table.{tokenOf, isWhole, rowAfter, tokenFault, faultOf, decodeFrom, decode, encodeTokens}
+use Rattle.text.specs.Wrap.{wrap}
+use Rattle.text.specs.Text.{blank, lineText, paragraphText, mark, isInferred, importText, plainText, fieldName, fieldType, fieldIndex, fieldText, indexText, deletedText, headText, declarationText, openingText, textOf}
+use Rattle.grammar.specs.Reading.{parse}
+use Rattle.cases.specs.Table.{Case, told, cases}
+
+pub cases-hold : map (λ (c : Case). told (c .asked)) cases ≡ map (λ (c : Case). bytes (c .told)) cases
+unfolding leBytes leNumber leAt pick digits decimal headBytes recordBytes lowerOf upperOf snakeOf pascalOf nameOrder sameName isBefore survives lastPart isParent cut stemOf importName isIdentifier isPath isInteger isParagraph paragraphOf afterParagraph areParagraphs isComment isPayload paragraphsOf paragraphBytes tokenOf isWhole rowAfter tokenFault faultOf decodeFrom decode encodeTokens wrap blank lineText paragraphText mark isInferred importText plainText fieldName fieldType fieldIndex fieldText indexText deletedText headText declarationText openingText textOf parse flatMap
+cases-hold = refl

@@ -1,0 +1,2 @@
+-- The one theorem of the marked cases.
+pub mod Holds

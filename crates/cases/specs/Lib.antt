@@ -1,0 +1,3 @@
+-- The marked cases of document 01.
+pub mod Printed
+pub mod Table

@@ -1,0 +1,3 @@
+-- What emitting a table promises.
+pub mod Emits
+pub mod Indices

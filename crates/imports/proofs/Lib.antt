@@ -1,0 +1,3 @@
+-- Laws of imports.
+pub mod Names
+pub mod Laws

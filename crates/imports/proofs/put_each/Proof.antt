@@ -1,0 +1,36 @@
+use Prim.Native.Nat.{_-_}
+use mathlib.Core.Path.{refl}
+use lib.ListN.{length}
+use Rattle.wire.proofs.Laws.{rest-all}
+use Rattle.sorted.proofs.Each.{each-at}
+use Rattle.imports.specs.Imports.{NamedHere, importsAt}
+use Rattle.imports.proofs.Laws.{Writing, wrote-one, wrote-all}
+use borrow.Author.Needs.{needs}
+use Rattle.imports.proofs.put_each.Statement.{statement}
+use Rattle.imports.proofs.put_each.Tie as tie
+
+abbrev Inv-loop : tie.InvT-loop
+Inv-loop out₀ o t items a₀ i₀ out a i = Writing (importsAt t) items out₀ o out a i
+
+abbrev μ-loop : tie.MeasureT-loop
+μ-loop out₀ o t items a₀ i₀ out a i = length items - i
+
+loop-holds : tie.Need-loop-holds Inv-loop μ-loop
+loop-holds c = record { left = rest-all; size = refl }
+
+put-import-requires : tie.Need-put-import-requires Inv-loop μ-loop
+put-import-requires c κs = each-at (NamedHere (c .before .before .before .before .before .before .before .args .t .now)) (c .before .before .before .before .before .before .before .args .items .now) (c .before .before .before .loop .i) 0 (c .before .before .before .before .before .before .before .pre) (c .before .before .loop-test .taken)
+
+loop-again : tie.Need-loop-again Inv-loop μ-loop
+loop-again c = wrote-one (c .before .before .before .before .before .before .loop .inv) (c .before .before .before .before .before .loop-test .taken) refl (c .before .before .put-import .ensures)
+
+same-length : tie.Need-same-length Inv-loop μ-loop
+same-length c = c .before .loop .inv .size
+
+returns : tie.Need-returns Inv-loop μ-loop
+returns c = wrote-all (c .before .loop .inv) (c .loop-test .left) refl
+
+pub put-each-spec : {M : Type 1} → statement M
+put-each-spec =
+    tie.close
+    (tie.spec Inv-loop μ-loop loop-holds (λ c. search needs) (λ c. search needs) put-import-requires (λ c. search needs) (λ c. search needs) loop-again same-length returns)

@@ -1,0 +1,2 @@
+-- Imports: their places in a token table, and their records.
+pub mod Imports

@@ -1,0 +1,14 @@
+use Rattle.wire.specs.Le.{leBytes}
+use lib.ListN.{length}
+use mathlib.Core.Path.{sym, ap}
+use Rattle.wire.proofs.Numbers.{leBytes-length}
+use Rattle.records.proofs.Laws.{put-record}
+use borrow.Author.Needs.{needs}
+use Rattle.records.proofs.put_plain.Statement.{statement}
+use Rattle.records.proofs.put_plain.Tie as tie
+
+returns : tie.Need-returns
+returns c = put-record _ _ _ (c .before .before .before .before .before .before .put-head .ensures) (c .before .before .put-u16 .ensures) (rw leBytes-length)
+
+pub put-plain-spec : {M : Type 1} → statement M
+put-plain-spec = tie.close (tie.spec (λ c κs. search needs) (λ c κs. search needs) (λ c. search needs) returns)

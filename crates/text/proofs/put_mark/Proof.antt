@@ -1,0 +1,28 @@
+-- `text::put_mark` meets its contract.
+use borrow.Author.Needs.{needs}
+use Rattle.wire.proofs.Laws.{then, wrote-length}
+use Rattle.text.specs.Text.{mark}
+use Rattle.text.proofs.Laws.{wrote-yes, chosen}
+use Rattle.text.proofs.put_mark.Statement.{statement}
+use Rattle.text.proofs.put_mark.Tie as tie
+
+returns : tie.Need-returns
+unfolding mark
+returns c =
+    let d = c .before .before in
+    wrote-yes _ _ _ (d .before .before .before .before .before .before .before .if1 .taken) (then (d .before .before .before .before .before .put-slice .ensures) (d .put-slice2 .ensures))
+
+returns-2 : tie.Need-returns-2
+unfolding mark
+returns-2 c = search chosen depth 12
+
+pub put-mark-spec : {M : Type 1} → statement M
+put-mark-spec =
+    tie.close
+    (tie.spec
+    (λ c κs. search needs)
+    (λ c. search needs)
+    (λ c κs. search needs)
+    (λ c. wrote-length (returns c))
+    returns
+    returns-2)

@@ -1,0 +1,3 @@
+-- The definition of the canonical text.
+pub mod Wrap
+pub mod Text

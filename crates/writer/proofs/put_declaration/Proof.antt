@@ -1,0 +1,44 @@
+-- `writer::put_declaration` meets its contract.
+use borrow.Author.Needs.{needs}
+use native.Mathlib.Omega.{arith}
+use Rattle.wire.proofs.Laws.{wrote-length}
+use Rattle.writer.proofs.Declarations.{head-at, declared}
+use Rattle.writer.proofs.put_declaration.Statement.{statement}
+use Rattle.writer.proofs.put_declaration.Tie as tie
+
+next-at-requires : tie.Need-next-at-requires
+next-at-requires c κs = let w = head-at (c .before .before .pre .0) (c .before .before .pre .1) .whole in (omega (arith, w), w .tail)
+
+kind-at-requires : tie.Need-kind-at-requires
+kind-at-requires c κs = omega (arith, head-at (c .before .before .before .before .pre .0) (c .before .before .before .before .pre .1) .whole)
+
+payload-at-requires : tie.Need-payload-at-requires
+payload-at-requires c κs = head-at (c .before .before .before .before .before .pre .0) (c .before .before .before .before .before .pre .1) .whole
+
+put-head-requires : tie.Need-put-head-requires
+put-head-requires c κs = rw (c .payload-at .ensures) (head-at (c .before .before .before .before .before .before .pre .0) (c .before .before .before .before .before .before .pre .1) .right)
+
+put-fields-requires : tie.Need-put-fields-requires
+put-fields-requires c κs = rw (c .before .before .before .before .before .before .before .next-at .ensures) (head-at (c .before .before .before .before .before .before .before .before .before .before .pre .0) (c .before .before .before .before .before .before .before .before .before .before .pre .1) .inside)
+
+put-end-requires : tie.Need-put-end-requires
+put-end-requires c κs = c .before .before .before .put-fields .ensures .fielded
+
+returns : tie.Need-returns
+returns c =
+    let n = c .before .before .before .before .before .before .before .before .before .before .before .before .before .before .next-at .ensures in
+    declared (head-at (c .before .before .before .before .before .before .before .before .before .before .before .before .before .before .before .before .before .pre .0) (c .before .before .before .before .before .before .before .before .before .before .before .before .before .before .before .before .before .pre .1)) (rw (c .before .before .before .before .before .before .before .before .before .before .before .before .kind-at .ensures, c .before .before .before .before .before .before .before .before .before .before .before .payload-at .ensures) at (c .before .before .before .before .before .before .before .before .before .before .put-head .ensures)) (rw n at (c .before .before .before .before .before .before .put-fields .ensures))
+    (rw n at (c .before .before .put-end .ensures))
+
+pub put-declaration-spec : {M : Type 1} → statement M
+put-declaration-spec =
+    tie.close
+    (tie.spec
+    next-at-requires
+    kind-at-requires
+    payload-at-requires
+    put-head-requires
+    put-fields-requires
+    put-end-requires
+    (λ c. wrote-length (returns c .wrote))
+    returns)

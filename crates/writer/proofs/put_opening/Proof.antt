@@ -1,0 +1,52 @@
+-- `writer::put_opening` meets its contract.
+use borrow.Author.Needs.{needs}
+use native.Mathlib.Omega.{arith}
+use mathlib.Core.Path.{sym, _∙_}
+use borrow.Author.Tests.{ne-eqb}
+use denote.Ref.{now}
+use Rattle.wire.proofs.Laws.{wrote-length}
+use Rattle.schema.proofs.Walk.{stands-start, record-at}
+use Rattle.text.proofs.Parts.{comment-parts}
+use Rattle.writer.proofs.Imports.{CommentAt, comment-at, commented, uncommented-end, uncommented-other}
+use Rattle.writer.proofs.put_opening.Statement.{statement}
+use Rattle.writer.proofs.put_opening.Tie as tie
+
+-- the schema comment's record
+here : (c : tie.Then2) → CommentAt (now (c .before .before .before .before .before .args .t))
+here c = comment-at _ (c .before .before .before .before .before .pre) (c .before .before .if1 .taken) (sym (c .before .kind-at .ensures) ∙ c .if2 .taken)
+
+kind-at-requires : tie.Need-kind-at-requires
+kind-at-requires c κs = omega (arith, record-at (stands-start _ (c .before .before .before .pre)) (c .if1 .taken) .whole)
+
+next-at-requires : tie.Need-next-at-requires
+next-at-requires c κs = let w = here c .whole in (omega (arith, w), w .tail)
+
+payload-at-requires : tie.Need-payload-at-requires
+payload-at-requires c κs = here (c .before .before .before) .whole
+
+put-comment-requires : tie.Need-put-comment-requires
+put-comment-requires c κs = (omega arith, rw (c .payload-at .ensures) (comment-parts _ (here (c .before .before .before .before) .right) .paragraphs))
+
+returns : tie.Need-returns
+returns c = commented (here (c .before .before .before .before .before .before .before .before .before .before .before)) (c .before .before .before .before .before .before .before .before .before .before .next-at .ensures) (rw (c .before .before .before .before .before .before .before .payload-at .ensures) at (c .before .before .before .before .before .before .put-comment .ensures)) (c .before .before .put-blank .ensures)
+
+returns-2 : tie.Need-returns-2
+returns-2 c = uncommented-other _ (c .before .before .before .before .before .pre) (c .before .before .if1 .taken) (ne-eqb _ _ (λ e. c .if2 .left (c .before .kind-at .ensures ∙ e)))
+
+returns-3 : tie.Need-returns-3
+returns-3 c = uncommented-end _ (c .before .before .before .pre) (c .if1 .left)
+
+pub put-opening-spec : {M : Type 1} → statement M
+put-opening-spec =
+    tie.close
+    (tie.spec
+    kind-at-requires
+    next-at-requires
+    (λ c. search needs)
+    payload-at-requires
+    put-comment-requires
+    (λ c κs. search needs)
+    (λ c. wrote-length (returns c .wrote))
+    returns
+    returns-2
+    returns-3)

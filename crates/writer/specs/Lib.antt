@@ -1,0 +1,4 @@
+-- The definition of writing a schema table's text.
+pub mod Parts
+pub mod Steps
+pub mod Written
