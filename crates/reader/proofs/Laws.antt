@@ -16,8 +16,16 @@ use Rattle.grammar.specs.Meaning.{schemaOf}
 use Rattle.grammar.specs.Reading.{parseSchema, parse, Outcome}
 use Rattle.grammar.specs.Answer.{readAnswer, answerOf, bytesOf, fitted}
 use Rattle.grammar.specs.Answer as reading
+use Rattle.wire.specs.Put.{Wrote}
+use Rattle.wire.proofs.Laws.{adv-is}
+use Rattle.token.specs.Places.{tokensFrom}
+use Rattle.token.specs.Checked.{checked}
+use Rattle.token.specs.declared.Checked as token
+use Rattle.token.specs.declared.Checked.the-variants.{Fine}
+use Rattle.token.proofs.Walk.{fine, refusal}
+use Rattle.grammar.proofs.Count.{errors-length}
 use Rattle.grammar.proofs.Outcomes.{parse-schema, parse-errors, read-refused, read-tokens}
-use Rattle.reader.specs.Answers.{Answers, told}
+use Rattle.reader.specs.Answers.{Answers, Checked, told}
 use Rattle.reader.specs.declared.Answer.the-variants.{Refused, Schema, Errors}
 
 pub turned-away : (t o : Bytes) {number offset : ℕ} → decode t ≡ refused number offset → Answers t o o (Refused number offset)
@@ -44,3 +52,24 @@ module _ (t o : Bytes) {ts : List Token} (d : decode t ≡ tokens ts) where
   pub errors-written : {o′ : Bytes} {r : ℕ} {es : List Error} → parse ts ≡ Outcome.errors es →
       leb (length (errorsBytes es)) (length o) ≡ true → (o′ ≡ errorsBytes es ++ drop (length (errorsBytes es)) o) × (r ≡ length (errorsBytes es)) → Answers t o o′ (Errors r)
   errors-written p e (b, n) = let a = fits t o d p e in record { answer = rw (a, n); buffer = rw a b }
+
+-- judging into no buffer told a length: nothing exactly where there are no errors
+pub errors-none : (es : List Error) {e : Bytes} {need : ℕ} → Wrote [] 0 (errorsBytes es) e need → need ≡ 0 → es ≡ []
+errors-none [] w z = refl
+errors-none (x ∷ es) w z = absurd (omega (arith, w .place, adv-is (errorsBytes (x ∷ es)) 0 (omega arith), errors-length (x ∷ es)))
+
+pub errors-some : (ts : List Token) {e : Bytes} {need : ℕ} → Wrote [] 0 (errorsBytes (parseSchema ts .errors)) e need → (need ≡ 0 → ⊥) → parse ts ≡ Outcome.errors (parseSchema ts .errors)
+errors-some ts w z = go (parseSchema ts .errors) refl
+  where
+    go : (es : List Error) → parseSchema ts .errors ≡ es → parse ts ≡ Outcome.errors (parseSchema ts .errors)
+    go [] q = absurd (z (omega (arith, w .place, adv-is (errorsBytes (parseSchema ts .errors)) 0 (omega arith), errors-length (parseSchema ts .errors), ap length q)))
+    go (x ∷ es) q = parse-errors ts q ∙ ap Outcome.errors (sym q)
+
+-- what the check told
+pub passed : {t : Bytes} {r : token.Checked} {n e : ℕ} → r ≡ checked t → r ≡ Fine n e → Checked t e × (length (tokensFrom t 0) ≡ n)
+passed {t} {r} {n} {e} p q =
+    let j = fine t n e (sym p ∙ q) in
+    (record { decodes = j .decodes; last = j .end; wf = j .wf }, sym (j .count))
+
+pub stopped : {t : Bytes} (o : Bytes) {r : token.Checked} {n at : ℕ} → r ≡ checked t → r ≡ token.the-variants.Refused n at → Answers t o o (Refused n at)
+stopped {t} o {r} {n} {at} p q = turned-away t o (refusal t n at (sym p ∙ q))
