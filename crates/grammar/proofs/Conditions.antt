@@ -50,7 +50,8 @@ module _ {A K : Type 0} (key : A → K) (same : A → A → Bool) (same-key : (x
   none-same x [] h m = List·Memᴰ·not-nil m
   none-same x (y ∷ ys) h m = go (same x y) refl (List·Memᴰ·cases-cons m) (none-same x ys)
     where
-      go : (b : Bool) → same x y ≡ b → (key x ≡ key y) ⊎ List·Memᴰ (key x) (map key ys) → (anyOf (same x) ys ≡ false → ¬ (List·Memᴰ (key x) (map key ys))) → ⊥
+      go : (b : Bool) → same x y ≡ b → (key x ≡ key y) ⊎ List·Memᴰ (key x) (map key ys)
+          → (anyOf (same x) ys ≡ false → ¬ (List·Memᴰ (key x) (map key ys))) → ⊥
       go true e s ih = true≢false (rw e at h)
       go false e (inl p) ih = true≢false (sym (key-same x y p) ∙ e)
       go false e (inr n) ih = ih (rw e at h) n

@@ -1,5 +1,5 @@
--- There are never more errors than tokens.
-use Prim.Native.Nat.{ℕ, zero, suc, _+_, _≤_, _<_}
+-- There are never more errors than tokens, and 57,344 bytes hold those of any table.
+use Prim.Native.Nat.{ℕ, zero, suc, _+_, _*_, _≤_, _<_}
 use mathlib.Core.Path.{_≡_, refl, ap}
 use mathlib.Core.Bool.{Bool, true, false}
 use mathlib.Core.Option.{Option, none, some}
@@ -9,10 +9,12 @@ use lib.Dec.{eqb}
 use lib.ListN.{length, length-append}
 use borrow.Author.Tests.{eqb-true}
 use Rattle.wire.specs.Pick.{pick}
+use Rattle.wire.specs.Record.{headBytes, recordBytes}
+use Rattle.wire.proofs.Numbers.{leBytes-length}
 use Rattle.token.specs.Token.{Token, endOf}
 use Rattle.token.specs.Kind.{kDeleted, kImport, kInteger, kRightCurly}
 use Rattle.grammar.specs.Tree.{FieldTree, DeletedPart, HeadTree, DeclarationTree, ImportTree, each}
-use Rattle.grammar.specs.Error.{Error, errorAt, errorOver}
+use Rattle.grammar.specs.Error.{Error, errorAt, errorOver, errorBytes, errorsBytes}
 use Rattle.grammar.specs.Meaning.{isNameless, importOf}
 use Rattle.grammar.specs.Condition.{anyOf, sameImport, sameIndex, importErrors, indexErrors}
 use Rattle.grammar.specs.Reading.{Result, ok, fail, is, consume, front, skip, parseField, Reading, isEnd, parseFields, parseDeleted, parseHead, parseRight, parseDeclaration, parseDeclarations, parseImport, parseImports, isOpening, parseOpening, parseSchema}
@@ -48,7 +50,8 @@ fields-count : (k end : ℕ) (ts : List Token) → length (parseFields k end ts 
 fields-count zero end ts = omega arith
 fields-count (suc k) end ts = go (isEnd ts) (parseField ts) refl refl (fields-count k end)
   where
-    go : (b : Bool) (m : Result FieldTree) → isEnd ts ≡ b → parseField ts ≡ m → ((us : List Token) → length (parseFields k end us .errors) ≤ 1) → length (parseFields (suc k) end ts .errors) ≤ 1
+    go : (b : Bool) (m : Result FieldTree) → isEnd ts ≡ b → parseField ts ≡ m → ((us : List Token) → length (parseFields k end us .errors) ≤ 1)
+        → length (parseFields (suc k) end ts .errors) ≤ 1
     go true m e p ih = rw (e, parseFields) (omega arith)
     go false (ok f r) e p ih = rw (e, p, parseFields) (ih r)
     go false (fail n r) e p ih = rw (e, p, parseFields) (omega arith)
@@ -73,7 +76,8 @@ declaration-count : (end : ℕ) (t : Token) (ts : List Token)
     → length (parseDeclaration end (t ∷ ts) .errors) + length (parseDeclaration end (t ∷ ts) .rest) ≤ suc (length ts)
 declaration-count end t ts = go (parseHead (t ∷ ts)) refl
   where
-    go : (m : Result HeadTree) → parseHead (t ∷ ts) ≡ m → length (parseDeclaration end (t ∷ ts) .errors) + length (parseDeclaration end (t ∷ ts) .rest) ≤ suc (length ts)
+    go : (m : Result HeadTree) → parseHead (t ∷ ts) ≡ m
+        → length (parseDeclaration end (t ∷ ts) .errors) + length (parseDeclaration end (t ∷ ts) .rest) ≤ suc (length ts)
     go (fail n r) p = rw (p, parseDeclaration) (omega arith)
     go (ok h r) p =
         let q = head-sound (t ∷ ts) p in
@@ -151,3 +155,16 @@ errors-at-most-tokens ts =
       declarations-count (length (is′ .rest)) end (is′ .rest),
       length-append (is′ .errors) (ds .errors),
     ))
+
+-- a record has 14 bytes
+error-length : (e : Error) → length (errorBytes e) ≡ 14
+unfolding errorBytes recordBytes headBytes
+error-length e = simp (length-append, leBytes-length)
+
+pub errors-length : (es : List Error) → length (errorsBytes es) ≡ 14 * length es
+unfolding errorsBytes
+errors-length [] = refl
+errors-length (e ∷ es) = omega (arith, length-append (errorBytes e) (errorsBytes es), error-length e, errors-length es)
+
+pub errors-short : (ts : List Token) → length ts ≤ 4096 → length (errorsBytes (parseSchema ts .errors)) ≤ 57344
+errors-short ts h = omega (arith, errors-length (parseSchema ts .errors), errors-at-most-tokens ts)

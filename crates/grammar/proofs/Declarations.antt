@@ -42,7 +42,8 @@ deleted-complete (some p) z r w h =
     let q = front-complete kInteger (p .indices) (z ∷ r) (w .indices) (rw h) in
     rw (eq-eqb (p .deleted .kind) kDeleted (w .deleted), parseDeleted) (rw (q .0, q .1))
 
-deleted-ends : (o : Option DeletedPart) (z : Token) (r : List Token) → IfAny WfDeleted o → Is kRightCurly z → isEnd (optionally yDeleted o (z ∷ r)) ≡ true
+deleted-ends : (o : Option DeletedPart) (z : Token) (r : List Token) → IfAny WfDeleted o → Is kRightCurly z
+    → isEnd (optionally yDeleted o (z ∷ r)) ≡ true
 deleted-ends none z r w h = rw h
 deleted-ends (some p) z r w h = rw (w .deleted)
 

@@ -1,5 +1,6 @@
--- Demand 3, on tokens and then on tables of bytes: reading answers a schema exactly where the grammar derives the tokens and the conditions hold, and then that derivation's
--- schema. specs/Tree is the grammar, specs/Derivation what it takes, specs/Meaning the schema of a tree, specs/Reading the reader.
+-- Demand 3, on tokens and then on tables: reading answers a schema exactly where the grammar derives the tokens and the conditions hold, and
+-- then it is that derivation's. specs/Tree is the grammar, specs/Derivation what it takes, specs/Meaning the schema of a tree, specs/Reading the
+-- reader, specs/Answer the bytes. Each statement cites the file that proves it.
 use Prim.Native.Nat.{ℕ, _≤_}
 use mathlib.Core.Path.{_≡_, refl, ap, sym, _∙_}
 use mathlib.Core.List.{List, [], _∷_}
@@ -21,34 +22,34 @@ use Rattle.grammar.proofs.Conditions.{no-condition-errors}
 use Rattle.grammar.proofs.Schemas.{schema-sound, schema-complete}
 use Rattle.grammar.proofs.Outcomes.{answers, same-schema, schema≢errors, no-schema, table-schema, table-answer}
 
--- every tree of the grammar is read; what it breaks of the conditions is all that is reported
+-- Every tree of the grammar is read; what it breaks of the conditions is all that is reported.
 pub reports : (tree : SchemaTree) → Wf tree → parse (yield tree) ≡ outcomeOf (record { errors = conditionErrors tree; value = tree; rest = [] })
 unfolding parse
 reports tree w = ap outcomeOf (schema-complete tree w)
 
--- a schema is the meaning of a derivation
+-- A schema that is answered is the meaning of a derivation.
 pub sound : (ts : List Token) (s : Schema) → parse ts ≡ schema s → (tree : SchemaTree) × Derives ts tree × (s ≡ schemaOf tree)
 sound ts s h = let a = answers ts s h in (parseSchema ts .value, schema-sound ts (a .0), a .1)
 
--- a derivation is answered with its meaning
+-- Every derivation is answered with its meaning.
 pub complete : (ts : List Token) (tree : SchemaTree) → Derives ts tree → parse ts ≡ schema (schemaOf tree)
 complete ts tree d = ap parse (sym (d .tokens)) ∙ reports tree (d .wf) ∙ rw (no-condition-errors tree (d .good))
 
--- there is one derivation at most
+-- There is one derivation at most.
 pub unique : (s t : SchemaTree) → Wf s → Wf t → yield s ≡ yield t → s ≡ t
 unique s t v w h = ap (λ (p : Reading SchemaTree). p .value) (sym (schema-complete s v) ∙ ap parseSchema h ∙ schema-complete t w)
 
 pub accepts-exactly : (ts : List Token) → ((s : Schema) × (parse ts ≡ schema s)) ↔ ((tree : SchemaTree) × Derives ts tree)
 accepts-exactly ts = (λ (s, h). let (tree, d, e) = sound ts s h in (tree, d), λ (tree, d). (schemaOf tree, complete ts tree d))
 
--- errors are answered where there is none
+-- Errors are answered exactly where there is none.
 pub refuses-exactly : (ts : List Token) → ((es : List Error) × (parse ts ≡ errors es)) ↔ (¬ ((tree : SchemaTree) × Derives ts tree))
 refuses-exactly ts = (λ (es, h) (tree, d). schema≢errors (sym (complete ts tree d) ∙ h), λ n. no-schema (parse ts) λ s h. n (accepts-exactly ts .0 (s, h)))
 
 pub schema-is-the-derivation's : (ts : List Token) (s : Schema) (tree : SchemaTree) → parse ts ≡ schema s → Derives ts tree → s ≡ schemaOf tree
 schema-is-the-derivation's ts s tree h d = same-schema (sym h ∙ complete ts tree d)
 
--- On tables that are not refused. A schema that is answered is the encoding of a derivation's
+-- On tables that are not refused: a schema table that is answered is the encoding of a derivation's schema,
 pub table-sound : (table : Bytes) (room : ℕ) (ts : List Token) (bs : Bytes) → decode table ≡ tokens ts → readAnswer table room ≡ Answer.schema bs
     → (tree : SchemaTree) × Derives ts tree × (bs ≡ encodeSchema (schemaOf tree))
 table-sound table room ts bs d h =
@@ -56,13 +57,15 @@ table-sound table room ts bs d h =
     let (tree, t, q) = sound ts s p in
     (tree, t, e ∙ ap encodeSchema q)
 
--- and every derivation is answered so, in a buffer that holds the answer
-pub table-complete : (table : Bytes) (room : ℕ) (ts : List Token) (tree : SchemaTree) → decode table ≡ tokens ts → Derives ts tree → length (encodeSchema (schemaOf tree)) ≤ room
+-- every derivation is answered so, in a buffer that holds it,
+pub table-complete : (table : Bytes) (room : ℕ) (ts : List Token) (tree : SchemaTree) → decode table ≡ tokens ts → Derives ts tree
+    → length (encodeSchema (schemaOf tree)) ≤ room
     → readAnswer table room ≡ Answer.schema (encodeSchema (schemaOf tree))
 table-complete table room ts tree d t l =
     let p = ap answerOf (complete ts tree t) in
     table-answer table room ts d (rw p l) ∙ p
 
+-- and in a buffer that holds the answer it is a schema table exactly where there is a derivation.
 pub table-exactly : (table : Bytes) (room : ℕ) (ts : List Token) → decode table ≡ tokens ts → length (bytesOf (answerOf (parse ts))) ≤ room
     → ((bs : Bytes) × (readAnswer table room ≡ Answer.schema bs)) ↔ ((tree : SchemaTree) × Derives ts tree)
 table-exactly table room ts d l = (

@@ -17,14 +17,16 @@ use Rattle.grammar.proofs.Rules.{Read, fail≢ok, cons≢nil, along, an
 use Rattle.grammar.proofs.Types.{type-sound, type-complete}
 use Rattle.grammar.proofs.Eats.{field-eats}
 
-part-sound : (ts : List Token) {o : Option TypePart} {r : List Token} → optional (is kColon) parseTypePart ts ≡ ok o r → Read (optionally yTypePart) (IfAny WfTypePart) ts o r
+part-sound : (ts : List Token) {o : Option TypePart} {r : List Token} → optional (is kColon) parseTypePart ts ≡ ok o r
+    → Read (optionally yTypePart) (IfAny WfTypePart) ts o r
 part-sound =
     optional-sound (is kColon) parseTypePart yTypePart WfTypePart λ c ts x r e h.
     andThen-ok (parseType ts) _ h λ y ts₁ p q.
     let s = type-sound ts p in
     along (Read yTypePart WfTypePart (c ∷ ts)) q (ap (_∷_ c) (s .0), record { colon = eqb-true (c .kind) kColon e; type = s .1 })
 
-part-complete : (o : Option TypePart) (e : Token) (r : List Token) → IfAny WfTypePart o → Is kEquals e → optional (is kColon) parseTypePart (optionally yTypePart o (e ∷ r)) ≡ ok o (e ∷ r)
+part-complete : (o : Option TypePart) (e : Token) (r : List Token) → IfAny WfTypePart o → Is kEquals e
+    → optional (is kColon) parseTypePart (optionally yTypePart o (e ∷ r)) ≡ ok o (e ∷ r)
 part-complete none e r w h = optional-none (is kColon) parseTypePart (e ∷ r) (rw h)
 part-complete (some p) e r w h =
     optional-some (is kColon) parseTypePart (p .colon) (yType (p .type) (e ∷ r)) p (e ∷ r) (eq-eqb (p .colon .kind) kColon (w .colon))
@@ -48,7 +50,8 @@ field-sound ts h =
     (cc, record { comment = is-passes kComment c (q₁ .1); rule = q₂ .1; name = q₃ .1; type = q₄ .1; equals = q₅ .1; index = q₆ .1 })
 
 -- after a field's comment stands a rule or a name
-not-comment : (o : Option Token) (n : Token) (r : List Token) → IfAny (Passes isRule) o → Is kIdentifier n → is kComment (kindAt (optionally _∷_ o (n ∷ r))) ≡ false
+not-comment : (o : Option Token) (n : Token) (r : List Token) → IfAny (Passes isRule) o → Is kIdentifier n
+    → is kComment (kindAt (optionally _∷_ o (n ∷ r))) ≡ false
 not-comment none n r w h = rw h
 not-comment (some t) n r w h = not-kind isRule (t .kind) kComment w refl
 
@@ -62,7 +65,8 @@ field-complete f r w =
     (rw (token-complete 12 kEquals (f .equals) _ (w .equals)) (rw (token-complete 13 kInteger (f .index) r (w .index)))))))
 
 -- where no field failed, the fields up to the end
-pub fields-sound : (k end : ℕ) (ts : List Token) → parseFields k end ts .errors ≡ [] → Read (each yField) (All WfField) ts (parseFields k end ts .value) (parseFields k end ts .rest)
+pub fields-sound : (k end : ℕ) (ts : List Token) → parseFields k end ts .errors ≡ []
+    → Read (each yField) (All WfField) ts (parseFields k end ts .value) (parseFields k end ts .rest)
 fields-sound zero end ts h = (refl, tt)
 fields-sound (suc k) end ts h = go (isEnd ts) (parseField ts) refl refl (fields-sound k end)
   where
@@ -77,7 +81,8 @@ fields-sound (suc k) end ts h = go (isEnd ts) (parseField ts) refl refl (fields-
         rw (e, p, parseFields) (q .0 ∙ ap (yField f) (i .0), (q .1, i .1))
 
 -- a field does not stand where the fields end
-begins-field : (c x : Option Token) (n : Token) (r : List Token) → IfAny (Is kComment) c → IfAny (Passes isRule) x → Is kIdentifier n → isEnd (optionally _∷_ c (optionally _∷_ x (n ∷ r))) ≡ false
+begins-field : (c x : Option Token) (n : Token) (r : List Token) → IfAny (Is kComment) c → IfAny (Passes isRule) x → Is kIdentifier n
+    → isEnd (optionally _∷_ c (optionally _∷_ x (n ∷ r))) ≡ false
 begins-field (some c) x n r w v h = rw w
 begins-field none none n r w v h = rw h
 begins-field none (some x) n r w v h = rw (not-kind isRule (x .kind) kDeleted v refl, not-kind isRule (x .kind) kRightCurly v refl)

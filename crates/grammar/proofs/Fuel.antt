@@ -29,7 +29,8 @@ fields-fuel (suc k) zero end [] l n = refl
 fields-fuel (suc k) zero end (t ∷ ts) l n = absurd (omega arith)
 fields-fuel (suc k) (suc m) end ts l n = go (isEnd ts) (parseField ts) refl refl (fields-fuel k m end)
   where
-    go : (b : Bool) (x : Result FieldTree) → isEnd ts ≡ b → parseField ts ≡ x → ((us : List Token) → length us ≤ k → length us ≤ m → parseFields k end us ≡ parseFields m end us)
+    go : (b : Bool) (x : Result FieldTree) → isEnd ts ≡ b → parseField ts ≡ x
+        → ((us : List Token) → length us ≤ k → length us ≤ m → parseFields k end us ≡ parseFields m end us)
         → parseFields (suc k) end ts ≡ parseFields (suc m) end ts
     go true x e p ih = rw (e, parseFields)
     go false (fail j r) e p ih = rw (e, p, parseFields)
@@ -80,7 +81,8 @@ declarations-rest (suc k) end [] l = refl
 declarations-rest (suc k) end (t ∷ ts) l = let s = declaration-left end t ts in declarations-rest k end (parseDeclaration end (t ∷ ts) .rest) (omega arith)
 
 -- imports
-imports-fuel : (k m end : ℕ) (before : List ImportTree) (ts : List Token) → length ts ≤ k → length ts ≤ m → parseImports k end before ts ≡ parseImports m end before ts
+imports-fuel : (k m end : ℕ) (before : List ImportTree) (ts : List Token) → length ts ≤ k → length ts ≤ m
+    → parseImports k end before ts ≡ parseImports m end before ts
 imports-fuel zero zero end before ts l n = refl
 imports-fuel zero (suc m) end before [] l n = refl
 imports-fuel zero (suc m) end before (t ∷ ts) l n = absurd (omega arith)

@@ -17,20 +17,23 @@ use Rattle.grammar.specs.Reading.{Result, ok, fail, andThen, is, consume
 use Rattle.grammar.proofs.Rules.{Read, fail≢ok, cons≢nil, both-nil, along, andThen-ok, token-sound, token-complete, optional-sound, optional-none, optional-some}
 use Rattle.grammar.proofs.Eats.{import-eats}
 
-alias-sound : (ts : List Token) {o : Option AliasPart} {r : List Token} → optional (is kAs) parseAlias ts ≡ ok o r → Read (optionally yAlias) (IfAny WfAlias) ts o r
+alias-sound : (ts : List Token) {o : Option AliasPart} {r : List Token} → optional (is kAs) parseAlias ts ≡ ok o r
+    → Read (optionally yAlias) (IfAny WfAlias) ts o r
 alias-sound =
     optional-sound (is kAs) parseAlias yAlias WfAlias λ a ts x r e h.
     andThen-ok (consume 7 (is kIdentifier) ts) _ h λ n ts₁ p q.
     let s = token-sound 7 kIdentifier ts p in
     along (Read yAlias WfAlias (a ∷ ts)) q (ap (_∷_ a) (s .0), record { keyword = eqb-true (a .kind) kAs e; name = s .1 })
 
-alias-complete : (o : Option AliasPart) (r : List Token) → IfAny WfAlias o → is kAs (kindAt r) ≡ false → optional (is kAs) parseAlias (optionally yAlias o r) ≡ ok o r
+alias-complete : (o : Option AliasPart) (r : List Token) → IfAny WfAlias o → is kAs (kindAt r) ≡ false
+    → optional (is kAs) parseAlias (optionally yAlias o r) ≡ ok o r
 alias-complete none r w h = optional-none (is kAs) parseAlias r h
 alias-complete (some p) r w h =
     optional-some (is kAs) parseAlias (p .keyword) (p .name ∷ r) p r (eq-eqb (p .keyword .kind) kAs (w .keyword))
     (rw (token-complete 7 kIdentifier (p .name) r (w .name)))
 
-pub import-sound : (t : Token) (ts : List Token) {i : ImportTree} {r : List Token} → Is kImport t → parseImport t ts ≡ ok i r → Read yImport WfImport (t ∷ ts) i r
+pub import-sound : (t : Token) (ts : List Token) {i : ImportTree} {r : List Token} → Is kImport t → parseImport t ts ≡ ok i r
+    → Read yImport WfImport (t ∷ ts) i r
 import-sound t ts w h =
     andThen-ok (consume 6 (is kPath) ts) _ h λ p ts₁ p₁ h₁.
     andThen-ok (optional (is kAs) parseAlias ts₁) _ h₁ λ a ts₂ p₂ h₂.
@@ -53,7 +56,8 @@ imported-cons : (before : List ImportTree) (ts r : List Token) (i : ImportTree) 
 imported-cons before ts r i q a e b =
     record { read = (a .0 ∙ ap (yImport i) (b .read .0), (a .1, b .read .1)); errors = rw e (b .errors) }
 
-pub imports-sound : (k end : ℕ) (before : List ImportTree) (ts : List Token) → parseImports k end before ts .errors ≡ [] → Imported before ts (parseImports k end before ts)
+pub imports-sound : (k end : ℕ) (before : List ImportTree) (ts : List Token) → parseImports k end before ts .errors ≡ []
+    → Imported before ts (parseImports k end before ts)
 imports-sound zero end before ts h = record { read = (refl, tt); errors = refl }
 imports-sound (suc k) end before [] h = record { read = (refl, tt); errors = refl }
 imports-sound (suc k) end before (t ∷ ts) h = go (eqb (t .kind) kImport) (parseImport t ts) refl refl (imports-sound k end)
@@ -78,7 +82,8 @@ no-as-after : (is′ : List ImportTree) (r : List Token) → All WfImport is′ 
 no-as-after [] r w z = z .no-as
 no-as-after (i ∷ is′) r w z = rw (w .0 .keyword)
 
-pub imports-complete : (is′ : List ImportTree) (r : List Token) → All WfImport is′ → Ends r → (k end : ℕ) (before : List ImportTree) → length (each yImport is′ r) ≤ k
+pub imports-complete : (is′ : List ImportTree) (r : List Token) → All WfImport is′ → Ends r → (k end : ℕ) (before : List ImportTree)
+    → length (each yImport is′ r) ≤ k
     → parseImports k end before (each yImport is′ r) ≡ record { errors = importsErrors before is′; value = is′; rest = r }
 imports-complete [] r w z zero end before l = refl
 imports-complete [] [] w z (suc k) end before l = refl

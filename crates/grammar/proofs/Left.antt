@@ -39,7 +39,8 @@ consume-left number test n (t ∷ ts) l = go (test (t .kind)) refl
     go true e = rw e (omega arith)
     go false e = rw e l
 
-optional-left : {A : Type 0} (test : ℕ → Bool) (rule : Token → List Token → Result A) → ((t : Token) → Shrinks (rule t)) → Shrinks (optional test rule)
+optional-left : {A : Type 0} (test : ℕ → Bool) (rule : Token → List Token → Result A) → ((t : Token) → Shrinks (rule t))
+    → Shrinks (optional test rule)
 optional-left test rule shrinks n [] l = l
 optional-left test rule shrinks n (t ∷ ts) l = go (test (t .kind)) refl
   where
@@ -63,7 +64,8 @@ type-left : Shrinks parseType
 type-left n [] l = l
 type-left n (t ∷ ts) l = go (eqb (t .kind) kLeftSquare) (isPlain (t .kind)) (isDotted ts) refl refl refl (type-left n ts (omega arith))
   where
-    go : (a b c : Bool) → eqb (t .kind) kLeftSquare ≡ a → isPlain (t .kind) ≡ b → isDotted ts ≡ c → length (left (parseType ts)) ≤ n → length (left (parseType (t ∷ ts))) ≤ n
+    go : (a b c : Bool) → eqb (t .kind) kLeftSquare ≡ a → isPlain (t .kind) ≡ b → isDotted ts ≡ c → length (left (parseType ts)) ≤ n
+        → length (left (parseType (t ∷ ts))) ≤ n
     go true b c e f g ih =
         rw (e, parseType)
         (andThen-left (parseType ts) _ n ih λ y ts₁ l₁. andThen-left (consume 11 (is kRightSquare) ts₁) _ n (consume-left 11 (is kRightSquare) n ts₁ l₁) λ x r m. m)
@@ -117,7 +119,8 @@ deleted-left n (t ∷ ts) l = go (eqb (t .kind) kDeleted) refl
     go true e = rw (e, parseDeleted) (skip-left (is kInteger) n ts (omega arith))
     go false e = rw (e, parseDeleted) l
 
-right-left : (end : ℕ) (h : HeadTree) (fs : Reading (List FieldTree)) (d : Reading (Option DeletedPart)) (m : Result Token) (n : ℕ) → length (left m) ≤ n
+right-left : (end : ℕ) (h : HeadTree) (fs : Reading (List FieldTree)) (d : Reading (Option DeletedPart)) (m : Result Token) (n : ℕ)
+    → length (left m) ≤ n
     → length (parseRight end h fs d m .rest) ≤ n
 right-left end h fs d (ok z r) n l = l
 right-left end h fs d (fail x r) n l = omega arith

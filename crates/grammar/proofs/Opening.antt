@@ -60,7 +60,8 @@ opening-sound (t ∷ ts) = go (isOpening (t ∷ ts)) refl
     go true e = rw (e, parseOpening) (record { tokens = refl; wf = opens t ts e })
     go false e = rw (e, parseOpening) (record { tokens = refl; wf = shuts (t ∷ ts) e })
 
-pub opening-complete : (c : Option Token) (r : List Token) → WfOpening c r → parseOpening (optionally _∷_ c r) ≡ record { errors = []; value = c; rest = r }
+pub opening-complete : (c : Option Token) (r : List Token) → WfOpening c r
+    → parseOpening (optionally _∷_ c r) ≡ record { errors = []; value = c; rest = r }
 opening-complete none [] w = refl
 opening-complete none (t ∷ ts) w = rw (shuts-back (t ∷ ts) w, parseOpening)
 opening-complete (some c) r w = rw (opens-back c r w, parseOpening)

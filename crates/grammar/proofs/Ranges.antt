@@ -64,7 +64,8 @@ first-start : (o : Option Token) (t : Token) (r : List Token) → firstOf o t .s
 first-start none t r = refl
 first-start (some c) t r = refl
 
-first-first : (o p : Option Token) (t : Token) (r : List Token) → firstOf o (firstOf p t) .start ≡ startOf (optionally _∷_ o (optionally _∷_ p (t ∷ r)))
+first-first : (o p : Option Token) (t : Token) (r : List Token)
+    → firstOf o (firstOf p t) .start ≡ startOf (optionally _∷_ o (optionally _∷_ p (t ∷ r)))
 first-first none p t r = first-start p t r
 first-first (some c) p t r = refl
 

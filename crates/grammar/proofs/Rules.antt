@@ -45,7 +45,8 @@ not-kind test m k p q = go (eqb m k) refl
     go false e = e
     go true e = absurd (true≢false (sym p ∙ ap test (eqb-true m k e) ∙ q))
 
-pub consume-sound : (n : ℕ) (test : ℕ → Bool) (ts : List Token) {t : Token} {r : List Token} → consume n test ts ≡ ok t r → Read _∷_ (Passes test) ts t r
+pub consume-sound : (n : ℕ) (test : ℕ → Bool) (ts : List Token) {t : Token} {r : List Token} → consume n test ts ≡ ok t r
+    → Read _∷_ (Passes test) ts t r
 unfolding pick
 consume-sound n test [] h = absurd (fail≢ok h)
 consume-sound n test (u ∷ us) {t} {r} h = go (test (u .kind)) refl
@@ -81,14 +82,17 @@ module _ {A : Type 0} (test : ℕ → Bool) (rule : Token → List Token → Res
   optional-none [] h = refl
   optional-none (t ∷ ts) h = rw (h, optional)
 
-  pub optional-some : (t : Token) (ts : List Token) (x : A) (r : List Token) → Passes test t → rule t ts ≡ ok x r → optional test rule (t ∷ ts) ≡ ok (some x) r
+  pub optional-some : (t : Token) (ts : List Token) (x : A) (r : List Token) → Passes test t → rule t ts ≡ ok x r
+      → optional test rule (t ∷ ts) ≡ ok (some x) r
   optional-some t ts x r w h = rw (w, optional) (rw h)
 
 -- an optional token
-pub optional-token-sound : (test : ℕ → Bool) (ts : List Token) {o : Option Token} {r : List Token} → optional test ok ts ≡ ok o r → Read (optionally _∷_) (IfAny (Passes test)) ts o r
+pub optional-token-sound : (test : ℕ → Bool) (ts : List Token) {o : Option Token} {r : List Token} → optional test ok ts ≡ ok o r
+    → Read (optionally _∷_) (IfAny (Passes test)) ts o r
 optional-token-sound test = optional-sound test ok _∷_ (Passes test) λ t ts x r e p. along (Read _∷_ (Passes test) (t ∷ ts)) p (refl, e)
 
-pub optional-token-complete : (test : ℕ → Bool) (o : Option Token) (r : List Token) → IfAny (Passes test) o → test (kindAt r) ≡ false → optional test ok (optionally _∷_ o r) ≡ ok o r
+pub optional-token-complete : (test : ℕ → Bool) (o : Option Token) (r : List Token) → IfAny (Passes test) o → test (kindAt r) ≡ false
+    → optional test ok (optionally _∷_ o r) ≡ ok o r
 optional-token-complete test none r w h = optional-none test ok r h
 optional-token-complete test (some t) r w h = optional-some test ok t r t r w refl
 
@@ -111,7 +115,8 @@ front-sound k (t ∷ ts) = go (is k (t .kind)) refl (front-sound k ts)
     go true e ih = rw (e, front, skip) (ap (_∷_ t) (ih .0), (eqb-true (t .kind) k e, ih .1))
     go false e ih = rw (e, front, skip) (refl, tt)
 
-pub front-complete : (k : ℕ) (is′ r : List Token) → All (Is k) is′ → is k (kindAt r) ≡ false → (front (is k) (each _∷_ is′ r) ≡ is′) × (skip (is k) (each _∷_ is′ r) ≡ r)
+pub front-complete : (k : ℕ) (is′ r : List Token) → All (Is k) is′ → is k (kindAt r) ≡ false
+    → (front (is k) (each _∷_ is′ r) ≡ is′) × (skip (is k) (each _∷_ is′ r) ≡ r)
 front-complete k [] [] w h = (refl, refl)
 front-complete k [] (t ∷ ts) w h = rw (h, front, skip) (refl, refl)
 front-complete k (i ∷ is′) r w h =
@@ -128,5 +133,6 @@ module _ {A : Type 0} (y : A → List Token → List Token) (Wf : A → Type 0) 
   all-append [] ys v w = w
   all-append (x ∷ xs) ys v w = (v .0, all-append xs ys (v .1) w)
 
-  pub read-join : (xs ys : List A) (ts s r : List Token) → Read (each y) (All Wf) ts xs s → Read (each y) (All Wf) s ys r → Read (each y) (All Wf) ts (xs ++ ys) r
+  pub read-join : (xs ys : List A) (ts s r : List Token) → Read (each y) (All Wf) ts xs s → Read (each y) (All Wf) s ys r
+      → Read (each y) (All Wf) ts (xs ++ ys) r
   read-join xs ys ts s r p q = (p .0 ∙ ap (each y xs) (q .0) ∙ each-append xs ys r, all-append xs ys (p .1) (q .1))

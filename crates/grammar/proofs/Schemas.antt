@@ -48,7 +48,8 @@ schema-sound ts h =
     }
 
 -- a declaration begins neither with `import` nor with `as`
-declaration-ends : (c : Option Token) (k : Token) (r : List Token) → IfAny (Is kComment) c → isKeyword (k .kind) ≡ true → Ends (optionally _∷_ c (k ∷ r))
+declaration-ends : (c : Option Token) (k : Token) (r : List Token) → IfAny (Is kComment) c → isKeyword (k .kind) ≡ true
+    → Ends (optionally _∷_ c (k ∷ r))
 declaration-ends none k r w v = record { no-import = not-kind isKeyword (k .kind) kImport v refl; no-as = not-kind isKeyword (k .kind) kAs v refl }
 declaration-ends (some c) k r w v = record { no-import = rw w; no-as = rw w }
 

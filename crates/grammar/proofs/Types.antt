@@ -36,7 +36,8 @@ type-sound (t ∷ ts) {y} {r} h = square (eqb (t .kind) kLeftSquare) refl (λ z 
     rest false true g e f = dotted-sound (t ∷ ts) (rw (f, g, e, parseType) at h)
     rest false false g e f = single-sound (t ∷ ts) (rw (f, g, e, parseType) at h)
 
-    square : (b : Bool) → eqb (t .kind) kLeftSquare ≡ b → ((z : TypeTree) (s : List Token) → parseType ts ≡ ok z s → Read yType WfType ts z s) → Read yType WfType (t ∷ ts) y r
+    square : (b : Bool) → eqb (t .kind) kLeftSquare ≡ b → ((z : TypeTree) (s : List Token) → parseType ts ≡ ok z s → Read yType WfType ts z s)
+        → Read yType WfType (t ∷ ts) y r
     square false e ih = rest (isPlain (t .kind)) (isDotted ts) refl refl e
     square true e ih =
         andThen-ok (parseType ts) _ (rw (e, parseType) at h) λ z ts₁ p₁ h₁.

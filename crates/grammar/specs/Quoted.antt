@@ -1,5 +1,5 @@
--- "Texts below stand for their tokens, at these byte places": the tokens of a quoted text. It serves the table of cases and judges nothing: a byte
--- that begins no token is skipped like a space.
+-- "Texts below stand for their tokens, at these byte places": the tokens of a quoted text, for examples and for the table of cases. It judges
+-- nothing: a byte that begins no token is skipped like a space, and each line after `# ` is a Comment of one paragraph.
 use Prim.Native.Nat.{ℕ, zero, suc, _+_, _*_, _-_}
 use Prim.Native.String.{String}
 use mathlib.Core.Bool.{Bool, true, false, _||_}

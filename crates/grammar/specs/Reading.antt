@@ -50,7 +50,7 @@ skip test (t ∷ ts) = elim (test (t .kind)) [ true ↦ skip test ts | false ↦
 
 -- Types.
 
--- the tokens after the first of at least three, of which the second is `.`
+-- at least three tokens remain and the second is `.`: these are the tokens after the first
 abbrev pub isDotted : List Token → Bool
 isDotted [] = false
 isDotted (d ∷ []) = false

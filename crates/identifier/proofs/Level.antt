@@ -9,8 +9,9 @@ use lib.ListN.{length, drop}
 use Rattle.wire.specs.Bytes.{Bytes}
 use Rattle.wire.specs.Pick.{pick}
 use Rattle.identifier.specs.Forms.{low, barLow, snakeOf}
-use Rattle.identifier.specs.Left.{leftOf, headOf, tailOf, Follows}
+use Rattle.identifier.specs.Left.{leftOf, headOf, tailOf, codeOf, Follows}
 use Rattle.identifier.specs.Order.{orderOf, nameOrder}
+use Rattle.identifier.proofs.Left.{falls}
 use Rattle.identifier.specs.declared.Next.{Next}
 use Rattle.identifier.specs.declared.Order.{Order}
 use Rattle.identifier.specs.declared.Order.the-variants.{Less, Equal, Greater}
@@ -42,7 +43,7 @@ heads-same (a ∷ x) [] e = absurd (omega arith)
 heads-same (a ∷ x) (b ∷ y) e = rw (le-ltb a b (omega arith), le-ltb b a (omega arith))
 
 -- what is left of a snake form
-abbrev snakeLeft : Bytes → ℕ → ℕ → Bytes
+abbrev pub snakeLeft : Bytes → ℕ → ℕ → Bytes
 snakeLeft name at state = leftOf low barLow state (drop at name)
 
 -- from these places on the two forms are ordered as the names are
@@ -53,19 +54,34 @@ pub start : (a b : Bytes) → Level a b 0 0 0 0
 unfolding nameOrder snakeOf
 start a b = record { order = refl }
 
-module _ {a b : Bytes} {i s j t : ℕ} (g : Level a b i s j t) {x y : Next} (f : Follows false true a i s x) (h : Follows false true b j t y) where
-  pub below : x .code < y .code → Less ≡ nameOrder a b
-  below l = sym (g .order ∙ heads-below (snakeLeft a i s) (snakeLeft b j t) (rw (← f .head, ← h .head) l))
+module _ {a b : Bytes} {i s j t : ℕ} (g : Level a b i s j t) {x y : Next} (f : Follows false true a i s x) (h : Follows false true b j t y) {p q : ℕ} (u : p ≡ codeOf x) (v : q ≡ codeOf y) where
+  first : p ≡ headOf (snakeLeft a i s)
+  first = u ∙ f .head
 
-  pub above : y .code < x .code → Greater ≡ nameOrder a b
-  above l = sym (g .order ∙ heads-above (snakeLeft a i s) (snakeLeft b j t) (rw (← f .head, ← h .head) l))
+  second : q ≡ headOf (snakeLeft b j t)
+  second = v ∙ h .head
 
-  module _ (k : y .code ≤ x .code) (l : x .code ≤ y .code) where
-    one : x .code ≡ y .code
+  pub below : p < q → Less ≡ nameOrder a b
+  below l = sym (g .order ∙ heads-below (snakeLeft a i s) (snakeLeft b j t) (rw (← first, ← second) l))
+
+  pub above : q < p → Greater ≡ nameOrder a b
+  above l = sym (g .order ∙ heads-above (snakeLeft a i s) (snakeLeft b j t) (rw (← first, ← second) l))
+
+  module _ (k : q ≤ p) (l : p ≤ q) where
+    one : p ≡ q
     one = omega arith
 
-    pub same : x .code ≡ 0 → Equal ≡ nameOrder a b
-    same z = sym (g .order ∙ both-end (snakeLeft a i s) (snakeLeft b j t) (sym (f .head) ∙ z) (sym (h .head) ∙ sym one ∙ z))
+    pub same : p ≡ 0 → Equal ≡ nameOrder a b
+    same z = sym (g .order ∙ both-end (snakeLeft a i s) (snakeLeft b j t) (sym first ∙ z) (sym second ∙ sym one ∙ z))
 
     pub further : Level a b (x .at) (x .state) (y .at) (y .state)
-    further = record { order = g .order ∙ heads-same (snakeLeft a i s) (snakeLeft b j t) (sym (f .head) ∙ one ∙ h .head) ∙ ap₂ orderOf (sym (f .tail)) (sym (h .tail)) }
+    further = record { order = g .order ∙ heads-same (snakeLeft a i s) (snakeLeft b j t) (sym first ∙ one ∙ second) ∙ ap₂ orderOf (sym (f .tail)) (sym (h .tail)) }
+
+  -- and less is left of the first
+  pub less : (p ≡ 0 → ⊥) → length (snakeLeft a (x .at) (x .state)) < length (snakeLeft a i s)
+  unfolding pick
+  less n = falls f (go (x .more) refl)
+    where
+      go : (m : Bool) → x .more ≡ m → x .more ≡ true
+      go true e = e
+      go false e = absurd (n (u ∙ rw e))

@@ -3,9 +3,10 @@
 use mathlib.Core.Path.{_≡_}
 use mathlib.Core.Bool.{Bool, true, false}
 use mathlib.Core.List.{List, [], _∷_, _++_, map}
-use Prim.Native.Nat.{ℕ, zero, suc, _+_, _≤_}
+use Prim.Native.Nat.{ℕ, zero, suc, _+_}
 use lib.ListN.{drop}
 use Rattle.wire.specs.Bytes.{Bytes}
+use Rattle.wire.specs.Pick.{pick}
 use Rattle.identifier.specs.Byte.{lowerOf}
 use Rattle.identifier.specs.Words.{pieces, unempty, wordsOf}
 use Rattle.identifier.specs.Forms.{low, up, barLow, laterWords, joined}
@@ -40,10 +41,12 @@ tailOf [] = []
 tailOf (b ∷ bs) = bs
 
 abbrev pub gives : ℕ → ℕ → ℕ → Next
-gives b at state = record { code = b + 1; at = at; state = state }
+gives b at state = record { more = true; byte = b; at = at; state = state }
+
+abbrev pub codeOf : Next → ℕ
+codeOf r = pick (r .more) (r .byte + 1) 0
 
 -- the next byte, and the place and state after it
 pub record Follows (up bar : Bool) (name : Bytes) (at state : ℕ) (r : Next) : Type 0 where
-  pub head : r .code ≡ headOf (leftOf (firstBy up) (laterBy bar) state (drop at name))
+  pub head : codeOf r ≡ headOf (leftOf (firstBy up) (laterBy bar) state (drop at name))
   pub tail : leftOf (firstBy up) (laterBy bar) (r .state) (drop (r .at) name) ≡ tailOf (leftOf (firstBy up) (laterBy bar) state (drop at name))
-  pub small : r .code ≤ 256

@@ -6,6 +6,7 @@ use lib.ListN.{length}
 use Rattle.wire.specs.Bytes.{Bytes}
 use Rattle.wire.specs.Le.{leBytes}
 use Rattle.wire.specs.Record.{recordBytes}
+use Rattle.token.specs.Payload.{paragraphBytes}
 use Rattle.schema.specs.Ast.{Range, TypeVariant, Rule, Field, Import, DeclarationVariant, Declaration, Schema}
 use Rattle.schema.specs.Kind.{sComment, sImport, sStruct, sChoice, sField, sDeleted, sArray, sPlain, sCustom}
 
@@ -16,22 +17,18 @@ encodeRecord kind r payload = recordBytes kind (r .start) (r .end) payload
 abbrev pub nowhere : Range
 nowhere = record { start = 0; end = 0 }
 
--- a name or a paragraph after its u16 length
+-- a name after its u16 length
 abbrev pub sized : Bytes → Bytes
 sized name = leBytes 2 (length name) ++ name
 
-abbrev pub paragraphs : List Bytes → Bytes
-paragraphs [] = []
-paragraphs (p ∷ ps) = sized p ++ paragraphs ps
-
 -- paragraphs after their u16 count
 abbrev pub counted : List Bytes → Bytes
-counted ps = leBytes 2 (length ps) ++ paragraphs ps
+counted ps = leBytes 2 (length ps) ++ paragraphBytes ps
 
 -- 101, only if there is a comment
 abbrev pub encodeComment : List Bytes → Bytes
 encodeComment [] = []
-encodeComment (p ∷ ps) = encodeRecord sComment nowhere (paragraphs (p ∷ ps))
+encodeComment (p ∷ ps) = encodeRecord sComment nowhere (paragraphBytes (p ∷ ps))
 
 abbrev pub importPayload : Import → Bytes
 importPayload i = sized (i .name) ++ i .path

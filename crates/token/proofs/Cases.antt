@@ -9,7 +9,7 @@ use Rattle.wire.specs.Pick.{pick}
 use Rattle.wire.specs.Record.{headBytes, recordBytes}
 use Rattle.token.specs.Kind.{kAs, kComment, kIdentifier, kInteger, kLeftSquare, kPath, kUnit}
 use Rattle.token.specs.Payload.{isIdentifier, isPath, isInteger, isParagraph, paragraphOf, afterParagraph, areParagraphs, isComment, isPayload, paragraphsOf, paragraphBytes}
-use Rattle.token.specs.Table.{tokenOf, isWhole, isOrdered, rowAfter, faultOf, Decoded, refused, tokens, decodeFrom, decode}
+use Rattle.token.specs.Table.{tokenOf, isWhole, tokenFault, rowAfter, faultOf, Decoded, refused, tokens, decodeFrom, decode}
 
 -- a refusal's number and offset; nothing where the table is good
 abbrev answer : Bytes → List ℕ
@@ -119,7 +119,7 @@ cases =
     ∷ []
 
 all : map (λ c. answer (c .table)) cases ≡ map (λ c. c .refusal) cases
-unfolding decode decodeFrom faultOf isOrdered rowAfter isWhole tokenOf isPayload isIdentifier isPath isInteger isComment areParagraphs isParagraph paragraphOf afterParagraph paragraphBytes leAt leNumber leBytes headBytes recordBytes pick
+unfolding decode decodeFrom faultOf tokenFault rowAfter isWhole tokenOf isPayload isIdentifier isPath isInteger isComment areParagraphs isParagraph paragraphOf afterParagraph paragraphBytes leAt leNumber leBytes headBytes recordBytes pick
 all = refl
 
 twice : paragraphsOf (paragraphBytes (bytes "a b" ∷ bytes "c" ∷ [])) ≡ bytes "a b" ∷ bytes "c" ∷ []

@@ -1,17 +1,17 @@
--- A table and its tokens determine each other: a table decodes to tokens exactly where these fit and are encoded in it.
+-- A table and its tokens determine each other: a table decodes to exactly the tokens that are in it (`decode-holds`, `holds-decode`).
 use borrow.Author.Tests.{leb-true, eqb-true, le-leb, le-ltb}
-use Prim.Native.Nat.{ℕ, zero, suc, _+_, _-_, _≤_, _<_}
+use Prim.Native.Nat.{ℕ, zero, suc, _+_, _-_, _^_, _≤_, _<_}
 use mathlib.Core.Path.{_≡_, refl, _∙_}
 use mathlib.Core.Bool.{Bool, true, false, and-eq-true-iff}
 use mathlib.Core.List.{List, [], _∷_, _++_, append-assoc}
 use native.Mathlib.Omega.{arith}
-use native.Mathlib.Nat.{add-sub-cancel-left}
+use native.Mathlib.Nat.{add-sub-cancel-left, pow-succ'}
 use native.Mathlib.Numerals.{sub-one}
 use lib.Dec.{leb, eqb}
 use lib.ListN.{length, take, drop, take-append-drop, length-drop, length-append}
 use lib.Seq.{length-take-le, take-at, drop-at, take-add, drop-drop}
 use Rattle.wire.specs.Bytes.{Bytes}
-use Rattle.wire.specs.Le.{leBytes, leAt, u16At, u32At}
+use Rattle.wire.specs.Le.{leBytes, leNumber, leAt, u16At, u32At}
 use Rattle.wire.specs.Pick.{pick}
 use Rattle.wire.specs.Record.{headBytes, recordBytes}
 use Rattle.wire.proofs.Numbers.{AllBytes, leBytes-length, leAt-leBytes}
@@ -19,11 +19,11 @@ use Rattle.identifier.specs.Byte.{within}
 use Rattle.token.specs.Kind.{kIdentifier, kPath, kInteger, kComment}
 use Rattle.token.specs.Token.{Token, endOf}
 use Rattle.token.specs.Payload.{isIdentifier, isPath, isInteger, isComment, isPayload}
-use Rattle.token.specs.Table.{sizeOf, tokenOf, isWhole, isOrdered, faultOf, tokens, decodeFrom, decode, encodeTokens}
-use Rattle.token.specs.Fit.{Sound, Fit}
+use Rattle.token.specs.Table.{sizeOf, tokenOf, isWhole, tokenFault, faultOf, tokens, decodeFrom, decode, encodeTokens}
+use Rattle.token.specs.Fit.{Sound, Fit, Holds}
 use Rattle.token.specs.Fit.Fit.{none, more}
 use Rattle.token.proofs.Records.{Fits, bounds, whole-is, decode-end, decode-next}
-use Rattle.token.proofs.Paragraphs.{all-drop, le-again, paragraphs-small}
+use Rattle.token.proofs.Paragraphs.{all-take, all-drop, le-again, paragraphs-small}
 use Rattle.token.proofs.Walk.{opened, fit, decode-small}
 
 pub head-length : (size kind start end : ℕ) → length (headBytes size kind start end) ≡ 12
@@ -33,7 +33,7 @@ head-length size kind start end = simp (length-append, leBytes-length)
 -- ---- from a table to its tokens
 
 -- the number in k bytes at a place, as these bytes
-bytes-at : (k at : ℕ) (bs : Bytes) → AllBytes bs → at + k ≤ length bs → leBytes k (leAt k bs at) ≡ take k (drop at bs)
+pub bytes-at : (k at : ℕ) (bs : Bytes) → AllBytes bs → at + k ≤ length bs → leBytes k (leAt k bs at) ≡ take k (drop at bs)
 unfolding leAt
 bytes-at k at bs h l = le-again k (drop at bs) (all-drop at bs h) (rw length-drop (omega arith))
 
@@ -44,7 +44,7 @@ head-again bs h l =
     rw (bytes-at 2 0 bs h (omega arith), bytes-at 2 2 bs h (omega arith), bytes-at 4 4 bs h (omega arith), bytes-at 4 8 bs h (omega arith))
     (rw (← take-add 2 2 bs, ← take-add 4 4 bs, ← take-add 8 4 bs))
 
-record-again : (bs : Bytes) → AllBytes bs → Fits bs
+pub record-again : (bs : Bytes) → AllBytes bs → Fits bs
     → recordBytes (tokenOf bs .kind) (tokenOf bs .start) (tokenOf bs .end) (tokenOf bs .payload) ++ drop (sizeOf bs) bs ≡ bs
 unfolding recordBytes tokenOf
 record-again bs h f =
@@ -64,16 +64,38 @@ encoded (suc n) at last row (b ∷ bs) ts h e =
     let i = encoded n _ _ _ (drop (sizeOf x) x) (o .rest) (all-drop (sizeOf x) x h) (rw sub-one at (o .next)) in
     rw (o .whole, i) (record-again x h (o .good .fits))
 
+-- k bytes hold less than 256 to the k
+pub le-small : (bs : Bytes) → AllBytes bs → leNumber bs < 256 ^ length bs
+unfolding leNumber
+le-small [] h = omega arith
+le-small (b ∷ bs) h = let i = le-small bs (h .1) in rw pow-succ' (omega (arith, h .0))
+
+end-small : (bs : Bytes) → AllBytes bs → Fits bs → tokenOf bs .end < 4294967296
+unfolding tokenOf leAt
+end-small bs h f =
+    let d = length-drop 8 bs in
+    let l : length (take 4 (drop 8 bs)) ≡ 4 = length-take-le 4 (drop 8 bs) (omega (arith, f .head, f .tail)) in
+    rw l at (le-small (take 4 (drop 8 bs)) (all-take 4 (drop 8 bs) (all-drop 8 bs h)))
+
+ends-small : (n at last row : ℕ) (bs : Bytes) (ts : List Token) → AllBytes bs → last < 4294967296 → decodeFrom n at last row bs ≡ tokens ts → endOf last ts < 4294967296
+ends-small zero at last row [] ts h m e = let z = decode-end at last row 0 in let q : ts ≡ [] = cc in rw q m
+ends-small (suc n) at last row [] ts h m e = let z = decode-end at last row (suc n) in let q : ts ≡ [] = cc in rw q m
+ends-small zero at last row (b ∷ bs) ts h m e = let o = opened zero at last row (b ∷ bs) ts (omega arith) e in absurd (omega (arith, o .more))
+ends-small (suc n) at last row (b ∷ bs) ts h m e =
+    let x = b ∷ bs in
+    let o = opened (suc n) at last row x ts (omega arith) e in
+    rw (o .whole) (ends-small n _ _ _ (drop (sizeOf x) x) (o .rest) (all-drop (sizeOf x) x h) (end-small x h (o .good .fits)) (rw sub-one at (o .next)))
+
 -- ---- from tokens to their table
 
 -- what a token's numbers have to be for its record to hold them
-record Narrow (t : Token) : Type 0 where
-  kind : t .kind < 65536
-  start : t .start < 4294967296
-  end : t .end < 4294967296
-  size : 12 + length (t .payload) < 65536
+pub record Narrow (t : Token) : Type 0 where
+  pub kind : t .kind < 65536
+  pub start : t .start < 4294967296
+  pub end : t .end < 4294967296
+  pub size : 12 + length (t .payload) < 65536
 
-abbrev entry : Token → Bytes
+abbrev pub entry : Token → Bytes
 entry t = recordBytes (t .kind) (t .start) (t .end) (t .payload)
 
 module _ (t : Token) (rest : Bytes) (w : Narrow t) where
@@ -103,18 +125,18 @@ module _ (t : Token) (rest : Bytes) (w : Narrow t) where
       let h = headBytes (12 + length (t .payload)) (t .kind) (t .start) (t .end) in
       rw (append-assoc h (t .payload) rest) (drop-at h (t .payload ++ rest) 12 (head-length _ _ _ _))
 
-  first-token : tokenOf (entry t ++ rest) ≡ t
+  pub first-token : tokenOf (entry t ++ rest) ≡ t
   unfolding tokenOf
   first-token = rw (first-size, first-kind, first-start, first-end, after-head, add-sub-cancel-left, take-at (t .payload) rest (length (t .payload)) refl)
 
-  first-rest : drop (sizeOf (entry t ++ rest)) (entry t ++ rest) ≡ rest
+  pub first-rest : drop (sizeOf (entry t ++ rest)) (entry t ++ rest) ≡ rest
   first-rest = rw (first-size, ← drop-drop, after-head) (drop-at (t .payload) rest (length (t .payload)) refl)
 
   first-length : length (entry t ++ rest) ≡ 12 + length (t .payload) + length rest
   unfolding recordBytes
   first-length = simp (length-append, head-length)
 
-  first-whole : isWhole (entry t ++ rest) ≡ true
+  pub first-whole : isWhole (entry t ++ rest) ≡ true
   first-whole =
       let l = first-length in
       let s = first-size in
@@ -122,7 +144,7 @@ module _ (t : Token) (rest : Bytes) (w : Narrow t) where
       ∙ rw (le-leb 12 (length (entry t ++ rest)) (omega arith), le-leb 12 (sizeOf (entry t ++ rest)) (omega arith), le-leb (sizeOf (entry t ++ rest)) (length (entry t ++ rest)) (omega arith))
 
 faultless : (last row : ℕ) (bs : Bytes) → isWhole bs ≡ true → Sound last row (tokenOf bs) → faultOf last row bs ≡ 0
-unfolding faultOf isOrdered pick
+unfolding faultOf tokenFault pick
 faultless last row bs w s =
     rw (w, le-leb _ _ (s .known .0), le-leb _ _ (s .known .1), s .payload, le-leb _ _ (s .order .0), le-leb _ _ (s .order .1), le-ltb _ _ (s .shallow))
 
@@ -169,13 +191,15 @@ decode-encoded (more {n} {last} {row} {t} {ts} s f) at e =
 
 -- ---- the theorem
 
--- a table decodes to tokens exactly where they fit, are encoded in it, and it is not too long
-pub tokens-fit : (t : Bytes) (ts : List Token) → decode t ≡ tokens ts → Fit 4096 0 0 ts
-tokens-fit t ts e = fit 4096 0 0 0 t ts (decode-small t ts e .1)
+-- a table decodes to exactly the tokens that are in it
+pub decode-holds : (t : Bytes) (ts : List Token) → AllBytes t → decode t ≡ tokens ts → Holds t ts
+decode-holds t ts h e =
+    let s = decode-small t ts e in
+    record { fit = fit 4096 0 0 0 t ts (s .1); narrow = ends-small 4096 0 0 0 t ts h (omega arith) (s .1); bytes = encoded 4096 0 0 0 t ts h (s .1); small = s .0 }
 
-pub encode-decode : (t : Bytes) (ts : List Token) → AllBytes t → decode t ≡ tokens ts → encodeTokens ts ≡ t
-encode-decode t ts h e = encoded 4096 0 0 0 t ts h (decode-small t ts e .1)
+pub holds-decode : (t : Bytes) (ts : List Token) → Holds t ts → decode t ≡ tokens ts
+unfolding decode pick
+holds-decode t ts c = rw (le-ltb 65536 (length t) (c .small), ← c .bytes) (decode-encoded (c .fit) 0 (c .narrow))
 
 pub decode-encode : (ts : List Token) → Fit 4096 0 0 ts → endOf 0 ts < 4294967296 → length (encodeTokens ts) ≤ 65536 → decode (encodeTokens ts) ≡ tokens ts
-unfolding decode pick
-decode-encode ts f e l = rw (le-ltb 65536 (length (encodeTokens ts)) l) (decode-encoded f 0 e)
+decode-encode ts f e l = holds-decode (encodeTokens ts) ts (record { fit = f; narrow = e; bytes = refl; small = l })

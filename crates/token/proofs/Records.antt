@@ -13,7 +13,7 @@ use lib.Seq.{drop-drop}
 use Rattle.wire.specs.Bytes.{Bytes}
 use Rattle.wire.specs.Pick.{pick}
 use Rattle.token.specs.Token.{Token, endOf}
-use Rattle.token.specs.Table.{sizeOf, tokenOf, isWhole, isOrdered, rowAfter, faultOf, Decoded, refused, tokens, addToken, decodeFrom, decode}
+use Rattle.token.specs.Table.{sizeOf, tokenOf, isWhole, rowAfter, tokenFault, faultOf, Decoded, refused, tokens, addToken, decodeFrom, decode}
 use Rattle.token.specs.Fit.{Sound}
 use Rattle.token.specs.Checked.{answerOf, checked}
 use Rattle.token.specs.declared.Checked.{Checked}
@@ -76,23 +76,25 @@ pub record Good (last row : ℕ) (bs : Bytes) : Type 0 where
 pub bounds : (a x b y : ℕ) → (leb a x && leb b y) ≡ true → (a ≤ x) × (b ≤ y)
 bounds a x b y e = let p = and-eq-true-iff (leb a x) (leb b y) .0 e in (leb-true a x (p .0), leb-true b y (p .1))
 
-pub good : (last row : ℕ) (bs : Bytes) → faultOf last row bs ≡ 0 → Good last row bs
-unfolding faultOf isOrdered
-good last row bs e =
-    let w = pick-zero _ 1 _ e in
-    let k = pick-zero _ 2 _ (w .1) in
+sound : (last row : ℕ) (t : Token) → tokenFault last row t ≡ 0 → Sound last row t
+unfolding tokenFault
+sound last row t e =
+    let k = pick-zero _ 2 _ e in
     let p = pick-zero _ 3 _ (k .1) in
     let o = pick-zero _ 4 _ (p .1) in
     let s = pick-zero _ 6 _ (o .1) in
     record {
-      fits = fits bs (not-false _ (w .0));
-      sound = record {
-        known = bounds _ _ _ _ (not-false _ (k .0));
-        payload = not-false _ (p .0);
-        order = bounds _ _ _ _ (not-false _ (o .0));
-        shallow = ltb-false 64 _ (s .0);
-      };
+      known = bounds _ _ _ _ (not-false _ (k .0));
+      payload = not-false _ (p .0);
+      order = bounds _ _ _ _ (not-false _ (o .0));
+      shallow = ltb-false 64 _ (s .0);
     }
+
+pub good : (last row : ℕ) (bs : Bytes) → faultOf last row bs ≡ 0 → Good last row bs
+unfolding faultOf
+good last row bs e =
+    let w = pick-zero _ 1 _ e in
+    record { fits = fits bs (not-false _ (w .0)); sound = sound last row (tokenOf bs) (w .1) }
 
 -- an answer of which `count` tokens are known, the last of them ending at `last`
 abbrev pub onto : ℕ → ℕ → Decoded → Checked

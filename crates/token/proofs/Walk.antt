@@ -53,8 +53,12 @@ module _ (t : Bytes) (at : ℕ) where
   unfolding tokensFrom
   tokens-end h = let z : length t - at ≡ 0 = omega arith in rw z
 
+  pub next-past : at + 12 ≤ nextAt t at
+  unfolding nextAt
+  next-past = omega arith
+
   pub tokens-step : at < length t → tokensFrom t at ≡ tokAt t at ∷ tokensFrom t (nextAt t at)
-  unfolding tokensFrom
+  unfolding tokensFrom nextAt
   tokens-step h =
       let l = length-drop at t in
       first (length t - at) (length t - nextAt t at) (drop at t) (omega arith) (omega arith) (omega arith) ∙ rw (drop-drop (max 12 (sizeOf (drop at t))) at t)
@@ -165,6 +169,7 @@ module _ {t : Bytes} {at : ℕ} (w : Wf t at) (h : at < length t) where
       record { head = g .head; tail = omega arith }
 
   pub next-is : nextAt t at ≡ at + sizeOf (drop at t)
+  unfolding nextAt
   next-is = ap (at +_) (step-is (wf-good .fits))
 
   pub wf-next : Wf t (nextAt t at)

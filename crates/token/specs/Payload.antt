@@ -20,29 +20,29 @@ atLeast zero bs = true
 atLeast (suc n) [] = false
 atLeast (suc n) (b ∷ bs) = atLeast n bs
 
--- a letter or `_`
+-- Identifier: 1 to 128 of letters, digits, `_`, `-`; the first a letter or `_`.
 abbrev pub isNameStart : ℕ → Bool
 isNameStart b = isLetter b || eqb b 95
 
--- letters, digits, `_`, `-`
 abbrev pub isNameByte : ℕ → Bool
 isNameByte b = isLetter b || (isDigit b || isBreak b)
 
--- 1 to 128 of them; the first a letter or `_`
 unfoldable pub isIdentifier : Bytes → Bool
 isIdentifier p = within 1 128 (length p) && (isNameStart (getD p 0 0) && all isNameByte p)
 
--- a printable byte other than 0x27
+-- Path: 0 to 128 printable bytes, no 0x27.
 abbrev pub isPathByte : ℕ → Bool
 isPathByte b = isPrintable b && not (eqb b 39)
 
 unfoldable pub isPath : Bytes → Bool
 isPath p = leb (length p) 128 && all isPathByte p
 
+-- Integer: 8 bytes.
 unfoldable pub isInteger : Bytes → Bool
 isInteger p = eqb (length p) 8
 
--- printable bytes, no space last, none after a space and, where `gap`, none first
+-- Comment: 1 to 32 paragraphs, each a u16 length and 1 to 1,024 printable bytes, no space first or last, no two spaces together.
+-- Here: no space last, none after a space and, where `gap`, none first.
 abbrev pub isSpaced : Bool → Bytes → Bool
 isSpaced gap [] = not gap
 isSpaced gap (b ∷ bs) = isPrintable b && (not (gap && eqb b 32) && isSpaced (eqb b 32) bs)
@@ -50,7 +50,7 @@ isSpaced gap (b ∷ bs) = isPrintable b && (not (gap && eqb b 32) && isSpaced (e
 unfoldable pub isParagraph : Bytes → Bool
 isParagraph p = within 1 1024 (length p) && isSpaced true p
 
--- a paragraph stands after its u16 length: the first one of these bytes, and what follows it
+-- the first paragraph of these bytes, after its u16 length, and what follows it
 unfoldable pub paragraphOf : Bytes → Bytes
 paragraphOf bs = take (u16At bs 0) (drop 2 bs)
 
@@ -66,11 +66,10 @@ areParagraphs (suc n) (b ∷ bs) =
     atLeast 2 (b ∷ bs)
     && (atLeast (2 + u16At (b ∷ bs) 0) (b ∷ bs) && (isParagraph (paragraphOf (b ∷ bs)) && areParagraphs n (afterParagraph (b ∷ bs))))
 
--- 1 to 32 paragraphs
 unfoldable pub isComment : Bytes → Bool
 isComment p = leb 1 (length p) && areParagraphs 32 p
 
--- a payload of this kind obeys its rule
+-- All others: empty.
 unfoldable pub isPayload : ℕ → Bytes → Bool
 isPayload kind p =
     pick (eqb kind kIdentifier) (isIdentifier p)

@@ -11,7 +11,7 @@ use Rattle.token.specs.Table.{sizeOf, tokenOf, tokens, decodeFrom}
 abbrev pub tokAt : Bytes → ℕ → Token
 tokAt t at = tokenOf (drop at t)
 
-abbrev pub nextAt : Bytes → ℕ → ℕ
+unfoldable pub nextAt : Bytes → ℕ → ℕ
 nextAt t at = at + max 12 (sizeOf (drop at t))
 
 -- the tokens that these bytes hold, judged or not; there are at most n
@@ -23,7 +23,8 @@ tokensIn (suc n) (b ∷ bs) = tokenOf (b ∷ bs) ∷ tokensIn n (drop (max 12 (s
 unfoldable pub tokensFrom : Bytes → ℕ → List Token
 tokensFrom t at = tokensIn (length t - at) (drop at t)
 
--- the records from a place on are good: they decode, as what is left of a table, to their tokens
+-- every record from a place on is good: as what is left of a table, after a token that ends at `last` and `row` LeftSquares, they decode to their
+-- tokens
 pub record Wf (t : Bytes) (at : ℕ) : Type 0 where
   pub small : length t ≤ 65536
   pub inside : at ≤ length t

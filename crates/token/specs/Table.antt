@@ -11,7 +11,7 @@ use Rattle.wire.specs.Pick.{pick}
 use Rattle.wire.specs.Record.{recordBytes}
 use Rattle.identifier.specs.Byte.{within}
 use Rattle.token.specs.Kind.{kLeftSquare}
-use Rattle.token.specs.Token.{Token}
+use Rattle.token.specs.Token.{Token, token}
 use Rattle.token.specs.Payload.{atLeast, isPayload}
 
 -- the length of the record that these bytes begin with
@@ -20,29 +20,28 @@ sizeOf bs = u16At bs 0
 
 -- and what it holds
 unfoldable pub tokenOf : Bytes → Token
-tokenOf bs = record { kind = u16At bs 2; start = u32At bs 4; end = u32At bs 8; payload = take (sizeOf bs - 12) (drop 12 bs) }
+tokenOf bs = token (u16At bs 2) (u32At bs 4) (u32At bs 8) (take (sizeOf bs - 12) (drop 12 bs))
 
--- at least 12 bytes, a length of at least 12, and as many bytes as it says
+-- R2 unless there are at least 12 bytes, the length is at least 12, and there are as many bytes as it says
 unfoldable pub isWhole : Bytes → Bool
 isWhole bs = atLeast 12 bs && (leb 12 (sizeOf bs) && atLeast (sizeOf bs) bs)
-
--- at least the end before it, and at most its own end
-unfoldable pub isOrdered : ℕ → Token → Bool
-isOrdered last t = leb last (t .start) && leb (t .start) (t .end)
 
 -- how many LeftSquares stand in a row up to a token of this kind, with `row` before it
 unfoldable pub rowAfter : ℕ → ℕ → ℕ
 rowAfter row kind = pick (eqb kind kLeftSquare) (row + 1) 0
 
--- the number that the record at the front of these bytes is refused with, after one that ends at `last` and `row` LeftSquares; 0 for none
+-- the number that a token is refused with, after one that ends at `last` and `row` LeftSquares; 0 for none
+unfoldable pub tokenFault : ℕ → ℕ → Token → ℕ
+tokenFault last row t =
+    pick (not (within 1 25 (t .kind))) 3
+    (pick (not (isPayload (t .kind) (t .payload))) 4
+    (pick (not (leb last (t .start) && leb (t .start) (t .end))) 5
+    (pick (ltb 64 (rowAfter row (t .kind))) 7
+    0)))
+
+-- and the record that these bytes begin with
 unfoldable pub faultOf : ℕ → ℕ → Bytes → ℕ
-faultOf last row bs =
-    pick (not (isWhole bs)) 2
-    (pick (not (within 1 25 (tokenOf bs .kind))) 3
-    (pick (not (isPayload (tokenOf bs .kind) (tokenOf bs .payload))) 4
-    (pick (not (isOrdered last (tokenOf bs))) 5
-    (pick (ltb 64 (rowAfter row (tokenOf bs .kind))) 7
-    0))))
+faultOf last row bs = pick (not (isWhole bs)) 2 (tokenFault last row (tokenOf bs))
 
 -- a number with the offset of the faulty record, or the tokens
 pub data Decoded : Type 0 where

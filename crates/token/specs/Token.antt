@@ -9,6 +9,9 @@ pub record Token : Type 0 where
   pub end : ℕ
   pub payload : Bytes
 
+abbrev pub token : ℕ → ℕ → ℕ → Bytes → Token
+token kind start end payload = record { kind = kind; start = start; end = end; payload = payload }
+
 -- where the last of the tokens ends; `before` where there is none
 abbrev pub endOf : ℕ → List Token → ℕ
 endOf before [] = before

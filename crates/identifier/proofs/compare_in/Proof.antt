@@ -1,9 +1,6 @@
 -- `identifier::compare_in`: the two forms are alike up to the two places (`Level`), and what is left of the first falls.
-use lib.ListN.{length, drop}
-use Rattle.identifier.specs.Forms.{low, barLow}
-use Rattle.identifier.specs.Left.{leftOf}
-use Rattle.identifier.proofs.Left.{falls}
-use Rattle.identifier.proofs.Level.{Level, start, below, above, same, further}
+use lib.ListN.{length}
+use Rattle.identifier.proofs.Level.{snakeLeft, Level, start, below, above, same, further, less}
 use borrow.Author.Needs.{needs}
 use Rattle.identifier.proofs.compare_in.Statement.{statement}
 use Rattle.identifier.proofs.compare_in.Tie as tie
@@ -12,7 +9,7 @@ abbrev Inv-loop : tie.InvT-loop
 Inv-loop class lower upper a b i₀ s₀ j₀ t₀ i s j t = Level a b i s j t
 
 abbrev μ-loop : tie.MeasureT-loop
-μ-loop class lower upper a b i₀ s₀ j₀ t₀ i s j t = length (leftOf low barLow s (drop i a))
+μ-loop class lower upper a b i₀ s₀ j₀ t₀ i s j t = length (snakeLeft a i s)
 
 loop-holds : tie.Need-loop-holds Inv-loop μ-loop
 loop-holds c = start _ _
@@ -27,7 +24,7 @@ returns-3 : tie.Need-returns-3 Inv-loop μ-loop
 returns-3 c = search same
 
 loop-less : tie.Need-loop-less Inv-loop μ-loop
-loop-less c = falls (c .before .before .before .before .before .before .before .before .before .next-byte .ensures) (c .if3 .left)
+loop-less c = search less
 
 loop-again : tie.Need-loop-again Inv-loop μ-loop
 loop-again c = search further
@@ -35,4 +32,4 @@ loop-again c = search further
 pub compare-in-spec : {M : Type 1} → statement M
 compare-in-spec =
     tie.close
-    (tie.spec Inv-loop μ-loop loop-holds (λ c κs. search needs) (λ c κs. search needs) returns returns-2 returns-3 loop-less loop-again)
+    (tie.spec Inv-loop μ-loop loop-holds (λ c κs. search needs) (λ c κs. search needs) (λ c κs. search needs) (λ c κs. search needs) returns returns-2 returns-3 loop-less loop-again)

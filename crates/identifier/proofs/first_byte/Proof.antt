@@ -5,12 +5,12 @@ use Rattle.identifier.proofs.first_byte.Statement.{statement}
 use Rattle.identifier.proofs.first_byte.Tie as tie
 
 returns : tie.Need-returns
-returns c = (rw (← c .before .upper-in .ensures) (search choice), search needs)
+returns c = rw (← c .upper-in .ensures) (search choice)
 
 returns-2 : tie.Need-returns-2
-returns-2 c = (rw (← c .before .lower-in .ensures) (search choice), search needs)
+returns-2 c = rw (← c .lower-in .ensures) (search choice)
 
 pub first-byte-spec : {M : Type 1} → statement M
 first-byte-spec =
     tie.close
-    (tie.spec (λ c κs. search needs) (λ c κs. search needs) returns (λ c κs. search needs) (λ c κs. search needs) returns-2)
+    (tie.spec (λ c κs. search needs) (λ c κs. search needs) returns returns-2)

@@ -1,0 +1,15 @@
+use borrow.Author.Tests.{eq-eqb, ne-eqb}
+use Rattle.grammar.specs.Reading.{is}
+use Rattle.parser.proofs.Laws.{consumed, not-consumed}
+use borrow.Author.Needs.{needs}
+use Rattle.parser.proofs.consume_token.Statement.{statement}
+use Rattle.parser.proofs.consume_token.Tie as tie
+
+returns : tie.Need-returns
+returns c = not-consumed _ (is (c .before .before .before .args .kind)) (c .before .before .before .pre .0) (rw (← c .before .kind-or-end .ensures) (ne-eqb _ _ (c .if1 .taken)))
+
+returns-2 : tie.Need-returns-2
+returns-2 c = consumed _ (is (c .before .before .before .before .args .kind)) (c .next .ensures) (rw (← c .before .before .kind-or-end .ensures) (eq-eqb _ _ (c .before .if1 .left)))
+
+pub consume-token-spec : {M : Type 1} → statement M
+consume-token-spec = tie.close (tie.spec (λ c κs. search needs) returns (λ c κs. search needs) returns-2)

@@ -1,0 +1,18 @@
+use borrow.Author.Tests.{eq-eqb}
+use Rattle.parser.proofs.Types.{no-dot, dot}
+use denote.Ref.{now}
+use Rattle.parser.specs.Steps.{ahead}
+use borrow.Author.Needs.{needs}
+use Rattle.parser.proofs.is_dotted.Statement.{statement}
+use Rattle.parser.proofs.is_dotted.Tie as tie
+
+returns : tie.Need-returns
+returns c = no-dot (ahead (now (c .before .before .before .args .t)) (c .before .before .before .args .c)) (c .before .kind-or-end .ensures) (c .if1 .taken)
+
+returns-2 : tie.Need-returns-2
+returns-2 c = rw (c .kind-or-end2 .ensures) (dot (c .before .next .ensures) (rw (← c .before .before .before .kind-or-end .ensures) (eq-eqb _ _ (c .before .before .if1 .left))))
+
+pub is-dotted-spec : {M : Type 1} → statement M
+is-dotted-spec =
+    tie.close
+    (tie.spec (λ c κs. search needs) returns (λ c κs. search needs) (λ c κs. search needs) returns-2)

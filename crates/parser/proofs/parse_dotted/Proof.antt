@@ -1,0 +1,29 @@
+use native.Mathlib.Omega.{arith}
+use Rattle.parser.proofs.Laws.{then, stop}
+use Rattle.parser.proofs.Types.{dotted}
+use borrow.Author.Needs.{needs}
+use Rattle.parser.proofs.parse_dotted.Statement.{statement}
+use Rattle.parser.proofs.parse_dotted.Tie as tie
+
+returns : tie.Need-returns
+returns c = stop _ (rw (c .before .number .given .1) at (c .before .before .before .consume-token .ensures))
+
+consume-token-requires-2 : tie.Need-consume-token-requires-2
+consume-token-requires-2 c κs = ((rw (c .before .after .given .1) at (c .before .before .before .consume-token .ensures)) .read .wf, omega arith)
+
+returns-2 : tie.Need-returns-2
+returns-2 c = then _ ((rw (c .before .before .before .before .before .after .given .1) at (c .before .before .before .before .before .before .before .consume-token .ensures)) .read) (stop _ (rw (c .before .number2 .given .1) at (c .before .before .before .consume-token2 .ensures)))
+
+consume-token-requires-3 : tie.Need-consume-token-requires-3
+consume-token-requires-3 c κs = ((rw (c .before .after2 .given .1) at (c .before .before .before .consume-token2 .ensures)) .read .wf, omega arith)
+
+returns-3 : tie.Need-returns-3
+returns-3 c = rw (c .base-type .ensures) (dotted (rw (c .before .before .before .before .before .before .before .before .before .before .after .given .1) at (c .before .before .before .before .before .before .before .before .before .before .before .before .consume-token .ensures)) (rw (c .before .before .before .before .before .before .after2 .given .1) at (c .before .before .before .before .before .before .before .before .consume-token2 .ensures)) (rw (c .before .before .after3 .given .1) at (c .before .before .before .before .consume-token3 .ensures)))
+
+returns-4 : tie.Need-returns-4
+returns-4 c = then _ ((rw (c .before .before .before .before .before .before .before .before .before .after .given .1) at (c .before .before .before .before .before .before .before .before .before .before .before .consume-token .ensures)) .read) (then _ ((rw (c .before .before .before .before .before .after2 .given .1) at (c .before .before .before .before .before .before .before .consume-token2 .ensures)) .read) (stop _ (rw (c .before .number3 .given .1) at (c .before .before .before .consume-token3 .ensures))))
+
+pub parse-dotted-spec : {M : Type 1} → statement M
+parse-dotted-spec =
+    tie.close
+    (tie.spec (λ c κs. search needs) (λ c. search needs) (λ c. search needs) returns consume-token-requires-2 (λ c. search needs) (λ c. search needs) returns-2 consume-token-requires-3 (λ c. search needs) (λ c κs. search needs) (λ c. search needs) returns-3 returns-4)

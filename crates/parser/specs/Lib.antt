@@ -1,0 +1,3 @@
+-- What the rules of the parser answer.
+pub mod Trees
+pub mod Steps

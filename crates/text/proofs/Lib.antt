@@ -1,3 +1,0 @@
--- The theorems and laws of the canonical text.
-pub mod Wrap
-pub mod Cases

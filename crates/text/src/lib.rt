@@ -1,1 +1,0 @@
-// The canonical text of a schema, as schema.rs writes it.
