@@ -20,13 +20,18 @@ pub fn side() -> Option<Side> {
 mod fitted {
     use crate::side::{Read, Wrote};
 
-    /// As in: `match ours::parser::read(table, out) { .. }`
-    pub fn read(_table: &[u8], _out: &mut [u8]) -> Read {
-        unimplemented!("fit this to the answer of the project's own `read`")
+    pub fn read(table: &[u8], out: &mut [u8]) -> Read {
+        match ours::reader::read(table, out) {
+            ours::reader::Answer::Refused(number, offset) => Read::Refused(number, offset),
+            ours::reader::Answer::Schema(length) => Read::Schema(length),
+            ours::reader::Answer::Errors(length) => Read::Errors(length),
+        }
     }
 
-    /// As in: `match ours::text::write(table, out) { .. }`
-    pub fn write(_table: &[u8], _out: &mut [u8]) -> Wrote {
-        unimplemented!("fit this to the answer of the project's own `write`")
+    pub fn write(table: &[u8], out: &mut [u8]) -> Wrote {
+        match ours::writer::write(table, out) {
+            ours::writer::Written::Refused(number, offset) => Wrote::Refused(number, offset),
+            ours::writer::Written::Text(length) => Wrote::Text(length),
+        }
     }
 }
