@@ -16,24 +16,24 @@ use Rattle.identifier.specs.Forms.{IsForm}
 use Rattle.identifier.specs.Name.{isName}
 use Rattle.identifier.proofs.Good.{name-short}
 use Rattle.identifier.proofs.Filled.{front}
-use Rattle.names.specs.Answer.{answerOf, leftOf, Answers}
+use Rattle.names.specs.Answer.{answerOf, bufferOf, Answers}
 use Rattle.names.specs.declared.Answer.{Answer}
 use Rattle.names.specs.declared.Answer.the-variants.{Written, Refused}
 
 pub bad-input : {good k : Bool} (bs o : Bytes) → k ≡ good → k ≡ false → Answers good bs o o (Refused 10 0)
-unfolding answerOf leftOf pick
+unfolding answerOf bufferOf pick
 bad-input bs o e f = let g = sym e ∙ f in record { answer = rw g; buffer = rw g }
 
 pub good-input : {good k : Bool} {bs o o′ : Bytes} {r : Answer} → Answers true bs o o′ r → k ≡ good → k ≡ true → Answers good bs o o′ r
 good-input a e t = let g = sym e ∙ t in rw g a
 
 pub too-big : (bs o : Bytes) → length o < length bs → Answers true bs o o (Refused 8 0)
-unfolding answerOf leftOf laid pick
+unfolding answerOf bufferOf laid pick
 too-big bs o h = let e = lt-leb (length bs) (length o) h in record { answer = rw e; buffer = rw e }
 
 -- bytes that fit, put at the front
 pub placed : {bs o o′ : Bytes} {r : ℕ} → length bs ≤ length o → length o ≤ 18446744073709551615 → Wrote o 0 bs o′ r → Answers true bs o o′ (Written (length bs))
-unfolding answerOf leftOf laid pick
+unfolding answerOf bufferOf laid pick
 placed {bs} {o} h k w =
     let e = le-leb (length bs) (length o) h in
     record { answer = rw e; buffer = rw e (w .bytes ∙ over-fits bs o 0 (omega arith) k ∙ rw zero-add) }
@@ -41,11 +41,11 @@ placed {bs} {o} h k w =
 -- bytes that were measured in the empty part of the buffer first
 module _ {o bs e : Bytes} {need : ℕ} (m : Wrote [] 0 bs e need) (k : length o < 18446744073709551615) where
   pub measured-big : length (e ++ o) < need → Answers true bs o (e ++ o) (Refused 8 0)
-  unfolding answerOf leftOf laid pick
+  unfolding answerOf bufferOf laid pick
   measured-big h = let t = too-long o m k h in record { answer = rw t; buffer = rw t (nothing o m) }
 
   pub measured-fits : {o′ : Bytes} {r : ℕ} → need ≤ length (e ++ o) → Wrote (e ++ o) 0 bs o′ r → Answers true bs o o′ (Written r)
-  unfolding answerOf leftOf laid pick
+  unfolding answerOf bufferOf laid pick
   measured-fits h w =
       let t = fits o m k h in
       let p = written o m k h w in

@@ -9,7 +9,8 @@ use Rattle.wire.specs.Bytes.{Bytes}
 use Rattle.wire.specs.Put.{Wrote}
 use Rattle.wire.proofs.Laws.{Rest, rest-all, rest-step, rest-none, then, wrote-none, wrote-length}
 use Rattle.identifier.specs.Forms.{snakeOf}
-use Rattle.names.specs.Namespace.{nameAt, isNamespace, namesOf, dotAt, dotted, joinedByDots, textOf}
+use Rattle.names.specs.Namespace.{isNamespace, namesOf, dotted, joinedByDots, textOf}
+use Rattle.names.specs.Place.{nameAt, dotAt}
 use Rattle.names.proofs.Walk.{Holds, holds, here, size, at-end}
 
 pub no-dot : {o : Bytes} {at p : ℕ} → p ≡ 0 → Wrote o at (dotAt p) o at

@@ -11,11 +11,12 @@ use Rattle.wire.specs.Pick.{pick}
 use Rattle.wire.specs.Le.{leAt, u16At}
 use Rattle.identifier.specs.Order.{sameName}
 use Rattle.identifier.proofs.Good.{and-inv}
-use Rattle.names.specs.Answer.{answerOf, leftOf, withSteps, Answers, Relatives}
+use Rattle.names.specs.Answer.{answerOf, bufferOf, withSteps, Answers, Relatives}
 use Rattle.names.specs.declared.Answer.{Answer}
 use Rattle.names.specs.declared.Relative.{Relative}
 use Rattle.names.specs.declared.Relative.the-variants as relative
-use Rattle.names.specs.Namespace.{nameAt, afterName, isNamespace, namesIn, namesOf, afterNames, common, commonOf, relativeOf, stepsUp, Parted}
+use Rattle.names.specs.Namespace.{afterName, isNamespace, namesIn, namesOf, afterNames, common, commonOf, relativeOf, stepsUp}
+use Rattle.names.specs.Place.{nameAt, Parted}
 use Rattle.names.proofs.Walk.{Holds, holds, holds-names, here, size, room, at-end, after-is}
 
 pub few : (n : ℕ) (bs : Bytes) → length (namesIn n bs) ≤ n
@@ -140,7 +141,7 @@ module _ {good k : Bool} (e : k ≡ good) where
   relative-good p t = let q = sym e ∙ t in rw q p
 
   pub relative-bad : (bs o : Bytes) (up : ℕ) → k ≡ false → Relatives good bs up o o (relative.Refused 10 0)
-  unfolding answerOf leftOf pick
+  unfolding answerOf bufferOf pick
   relative-bad bs o up f = let q = sym e ∙ f in record { answer = rw q; buffer = rw q }
 
 pub both-good : (x y : Bool) {k : Bool} → k ≡ (x && y) → k ≡ true → (x ≡ true) × (y ≡ true)

@@ -14,7 +14,8 @@ use Rattle.wire.specs.Le.{leAt, u16At}
 use Rattle.wire.specs.Pick.{pick}
 use Rattle.identifier.specs.Name.{isName}
 use Rattle.identifier.proofs.Good.{and-inv, name-short}
-use Rattle.names.specs.Namespace.{nameAt, endOf, firstName, afterName, startsName, areNames, isNamespace, namesIn, namesOf, afterNames}
+use Rattle.names.specs.Namespace.{firstName, afterName, startsName, areNames, isNamespace, namesIn, namesOf, afterNames}
+use Rattle.names.specs.Place.{nameAt, endOf}
 
 -- bytes that are names
 pub data Holds : Bytes → List Bytes → Type 0 where

@@ -30,12 +30,12 @@ unfoldable pub answerOf : Bool → Bytes → Bytes → Answer
 answerOf good bs o = pick good (pick (leb (length bs) (length o)) (Written (length bs)) (Refused 8 0)) (Refused 10 0)
 
 -- and what is left in the buffer
-unfoldable pub leftOf : Bool → Bytes → Bytes → Bytes
-leftOf good bs o = pick good (laid o bs) o
+unfoldable pub bufferOf : Bool → Bytes → Bytes → Bytes
+bufferOf good bs o = pick good (laid o bs) o
 
 pub record Answers (good : Bool) (bs o o′ : Bytes) (r : Answer) : Type 0 where
   pub answer : r ≡ answerOf good bs o
-  pub buffer : o′ ≡ leftOf good bs o
+  pub buffer : o′ ≡ bufferOf good bs o
 
 -- for relativizing, with the number of steps up besides
 abbrev pub withSteps : ℕ → Answer → Relative
@@ -44,7 +44,7 @@ withSteps up (Refused number offset) = relative.Refused number offset
 
 pub record Relatives (good : Bool) (bs : Bytes) (up : ℕ) (o o′ : Bytes) (r : Relative) : Type 0 where
   pub answer : r ≡ withSteps up (answerOf good bs o)
-  pub buffer : o′ ≡ leftOf good bs o
+  pub buffer : o′ ≡ bufferOf good bs o
 
 -- the order of two names
 abbrev pub comparedAs : Order → Compared

@@ -1,13 +1,11 @@
 -- Document 01, "Names": a namespace is lent as 0 to 64 names, each after its u16 length; its text is the snake forms joined by `.`.
-use mathlib.Core.Path.{_≡_}
 use mathlib.Core.Bool.{Bool, true, false, _&&_}
 use mathlib.Core.List.{List, [], _∷_, _++_}
-use Prim.Native.Nat.{ℕ, zero, suc, _+_, _-_, _≤_}
+use Prim.Native.Nat.{ℕ, zero, suc, _+_, _-_}
 use lib.Dec.{leb}
 use lib.ListN.{length, take, drop}
 use Rattle.wire.specs.Bytes.{Bytes}
 use Rattle.wire.specs.Le.{u16At}
-use Rattle.wire.specs.Pick.{pick}
 use Rattle.identifier.specs.Name.{isName}
 use Rattle.identifier.specs.Forms.{snakeOf}
 use Rattle.identifier.specs.Order.{sameName}
@@ -21,13 +19,6 @@ afterName bs = drop (2 + u16At bs 0) bs
 
 unfoldable pub startsName : Bytes → Bool
 startsName bs = leb 2 (length bs) && (leb (2 + u16At bs 0) (length bs) && isName (firstName bs))
-
--- the name that stands at a place, and the place past it, or 0 where there is no such name
-abbrev pub nameAt : Bytes → ℕ → Bytes
-nameAt ns at = take (u16At ns at) (drop (at + 2) ns)
-
-unfoldable pub endOf : Bytes → ℕ → ℕ
-endOf ns at = pick (startsName (drop at ns)) (at + 2 + u16At ns at) 0
 
 -- the bytes are names, at most n
 abbrev pub areNames : ℕ → Bytes → Bool
@@ -57,11 +48,6 @@ abbrev pub dotted : List Bytes → Bytes
 dotted [] = []
 dotted (name ∷ names) = 46 ∷ snakeOf name ++ dotted names
 
--- what stands before the name at the place p
-abbrev pub dotAt : ℕ → Bytes
-dotAt zero = []
-dotAt (suc p) = 46 ∷ []
-
 abbrev pub joinedByDots : List Bytes → Bytes
 joinedByDots [] = []
 joinedByDots (name ∷ names) = snakeOf name ++ dotted names
@@ -84,10 +70,3 @@ relativeOf a b = afterNames (commonOf a b) a
 
 unfoldable pub stepsUp : Bytes → Bytes → ℕ
 stepsUp a b = length (namesOf b) - commonOf a b
-
--- the places after the common start
-pub record Parted (a b : Bytes) (i j : ℕ) : Type 0 where
-  pub rest : drop i a ≡ relativeOf a b
-  pub good : isNamespace (drop j b) ≡ true
-  pub up : length (namesOf (drop j b)) ≡ stepsUp a b
-  pub within : (i ≤ length a) × (j ≤ length b)

@@ -4,7 +4,6 @@ use identifier::Order;
 ghost use mathlib.Core.Path.{_≡_};
 ghost use mathlib.Core.Bool.{true, _&&_};
 ghost use Prim.Native.Nat.{_+_, _<_, _≤_};
-ghost use lib.Dec.{leb};
 ghost use lib.ListN.{length, take};
 ghost use Rattle.wire.specs.Le.{u16At};
 ghost use Rattle.wire.specs.Put.{Wrote};
@@ -14,7 +13,8 @@ ghost use Rattle.identifier.specs.Name.{isName};
 ghost use Rattle.identifier.specs.Forms.{snakeOf, camelOf, pascalOf};
 ghost use Rattle.identifier.specs.Join.{joinOf};
 ghost use Rattle.identifier.specs.Survive.{survives};
-ghost use Rattle.names.specs.Namespace.{nameAt, endOf, isNamespace, namesOf, dotAt, textOf, relativeOf, stepsUp, Parted};
+ghost use Rattle.names.specs.Namespace.{isNamespace, namesOf, textOf, relativeOf, stepsUp};
+ghost use Rattle.names.specs.Place.{nameAt, endOf, dotAt, Parted};
 ghost use Rattle.names.specs.Answer.{Answers, withSteps, Relatives, comparedAs, comparedOf, samenessOf, isJoinable, survivalOf};
 
 pub enum Answer {
@@ -145,14 +145,14 @@ fn store_join(out: &mut [u8], a: &[u8], b: &[u8]) -> Answer
     requires { ⌜ length (now a) + length (now b) ≤ 127 ⌝ }
     ensures { λ r. ⌜ Answers true (joinOf (now (a .entry)) (now (b .entry))) (now (out .entry)) (now (out .exit)) r ⌝ }
 {
-    let n = a.len() + 1 + b.len();
-    if out.len() < n {
+    let size = a.len() + 1 + b.len();
+    if out.len() < size {
         return Answer::Refused(8, 0);
     }
     let p = wire::put_slice(out, 0, a);
     let q = wire::put_byte(out, p, b'_');
     wire::put_slice(out, q, b);
-    Answer::Written(n)
+    Answer::Written(size)
 }
 
 pub fn join(out: &mut [u8], a: &[u8], b: &[u8]) -> Answer
@@ -304,9 +304,9 @@ fn count_names(ns: &[u8]) -> usize
 }
 
 // Places in two namespaces.
-pub struct Places {
-    pub one: usize,
-    pub other: usize,
+struct Places {
+    one: usize,
+    other: usize,
 }
 
 // The places after the longest common start.
@@ -341,7 +341,7 @@ fn with_steps(up: usize, answer: Answer) -> Relative
     ensures { λ r. ⌜ r ≡ withSteps up answer ⌝ }
 {
     match answer {
-        Answer::Written(n) => Relative::Written(n, up),
+        Answer::Written(size) => Relative::Written(size, up),
         Answer::Refused(number, offset) => Relative::Refused(number, offset),
     }
 }

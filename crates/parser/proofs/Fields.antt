@@ -45,6 +45,7 @@ module _ {t : Bytes} {c colon : Cursor} {o x : Skip} (n : Named t c o x colon) w
               equals = e .here;
               index = i .here;
             };
+            laid = rw (← n .comment .place, ← n .rule .place, ← n .name .place, ← y .laid, ← y .end, ← e .place);
             first = rw (n .rule .first) (n .comment .first);
             eats = omega (arith, n .comment .read .onward, n .rule .read .onward, n .name .read .onward, y .read .onward, e .read .onward, i .place, next-past t (index .at));
           }

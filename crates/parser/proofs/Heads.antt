@@ -75,6 +75,7 @@ module _ {t : Bytes} {c name : Cursor} {o : Skip} {number : ℕ} (b : Begun t c 
         record {
           read = rw (← p .place) (then _ (b .comment .read) (then _ kw (then _ (named (p .read)) (then _ (q .read) (done (q .read .wf))))));
           stands = record { first = (b .wf, omega (arith, b .comment .read .onward, b .step .here .1)); keyword = b .step .here; name = p .here };
+          laid = rw (← b .comment .place, ← b .step .place);
           first = b .comment .first;
           eats = omega (arith, b .comment .read .onward, kw .onward, p .read .onward, q .place, next-past t (left .at));
         }

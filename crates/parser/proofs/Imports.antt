@@ -29,6 +29,7 @@ module _ {t : Bytes} {c path : Cursor} (s : Stepped t c path) where
         record {
           read = from-keyword (then _ (p .read) (then _ (absent (is kAs) parseAlias (p .read .wf) e) (done (p .read .wf))));
           stands = record { first = s .here; path = p .here; last = p .here };
+          laid = rw (← s .place);
           first = refl;
           last = refl;
         }
@@ -43,6 +44,7 @@ module _ {t : Bytes} {c path : Cursor} (s : Stepped t c path) where
           record {
             read = rw (← p .place) (from-keyword (then _ (p .read) (then _ (present (is kAs) parseAlias a e (then _ (q .read) (done (q .read .wf)))) (done (q .read .wf)))));
             stands = record { first = s .here; path = p .here; last = q .here };
+            laid = rw (← s .place, ← p .place, ← a .place);
             first = refl;
             last = refl;
           }

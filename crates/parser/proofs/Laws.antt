@@ -106,7 +106,7 @@ module _ {A : Type 0} {t : Bytes} {c : Cursor} (test : ℕ → Bool) (rule : Tok
 -- a token alone
 module _ {t : Bytes} {c : Cursor} (test : ℕ → Bool) where
   pub skipped : {d : Cursor} → Stepped t c d → test (kindAt (ahead t c)) ≡ true → Skipped t c test (record { there = true; next = d })
-  skipped s e = record { read = present test ok s e (done (s .wf)); first = refl }
+  skipped s e = record { read = present test ok s e (done (s .wf)); first = refl; place = s .place }
 
   pub not-skipped : Wf t (c .at) → test (kindAt (ahead t c)) ≡ false → Skipped t c test (record { there = false; next = c })
-  not-skipped w e = record { read = absent test ok w e; first = refl }
+  not-skipped w e = record { read = absent test ok w e; first = refl; place = refl }

@@ -4,3 +4,4 @@ pub mod Types
 pub mod Fields
 pub mod Heads
 pub mod Imports
+pub mod Unique

@@ -1,3 +1,4 @@
 -- What the rules of the parser answer.
 pub mod Trees
+pub mod Laid
 pub mod Steps

@@ -14,6 +14,7 @@ use Rattle.grammar.specs.Place.{firstOf}
 use Rattle.grammar.specs.Meaning.{lastOf}
 use Rattle.grammar.specs.Reading.{Result, ok, fail, is, optional, parseType, parseTypePart, parseField, parseHead, parseImport}
 use Rattle.parser.specs.Trees.{when, typeAt, partAt, fieldAt, headAt, importAt}
+use Rattle.parser.specs.Laid.{skipAt, typeLaid, typeEnd, partLaid, partEnd, fieldLaid, headLaid, importLaid}
 use Rattle.parser.specs.declared.Cursor.{Cursor}
 use Rattle.parser.specs.declared.Skip.{Skip}
 use Rattle.parser.specs.declared.TokenStep.{TokenStep}
@@ -73,6 +74,7 @@ TokenRead t c rule (token.Failed number at) = Reads t c rule (fail number) at
 pub record Skipped (t : Bytes) (c : Cursor) (test : ℕ → Bool) (s : Skip) : Type 0 where
   pub read : Reads t c (optional test ok) (ok (when (s .there) (tokAt t (c .at)))) (s .next)
   pub first : firstOf (when (s .there) (tokAt t (c .at))) (tokAt t (s .next .at)) ≡ tokAt t (c .at)
+  pub place : s .next .at ≡ skipAt t (s .there) (c .at)
 
 -- Types.
 abbrev pub BaseStands : Bytes → ℕ → Bool → Type 0
@@ -90,8 +92,8 @@ pub record TypeStands (t : Bytes) (p : TypePlaces) : Type 0 where
 pub record TypePassed (t : Bytes) (c : Cursor) (rule : List Token → Result TypeTree) (p : TypePlaces) (after : Cursor) : Type 0 where
   pub read : Reads t c rule (ok (typeAt t p)) after
   pub stands : TypeStands t p
-  pub opens : p .opens ≡ c .at
-  pub end : after .at ≡ p .close + 12 * p .depth
+  pub laid : p ≡ typeLaid t (c .at) (p .depth) (p .dotted)
+  pub end : after .at ≡ typeEnd p
 
 abbrev pub TypeRead : Bytes → Cursor → (List Token → Result TypeTree) → TypeStep → Type 0
 TypeRead t c rule (type.Passed p after) = TypePassed t c rule p after
@@ -114,6 +116,8 @@ PartStands t (Present colon p) = Stands t colon × TypeStands t p
 pub record PartPassed (t : Bytes) (c : Cursor) (p : PartPlaces) (after : Cursor) : Type 0 where
   pub read : Reads t c (optional (is kColon) parseTypePart) (ok (partAt t p)) after
   pub stands : PartStands t p
+  pub laid : p ≡ partLaid t (c .at) p
+  pub end : after .at ≡ partEnd (c .at) p
 
 abbrev pub PartRead : Bytes → Cursor → PartStep → Type 0
 PartRead t c (part.Passed p after) = PartPassed t c p after
@@ -131,6 +135,7 @@ pub record FieldStands (t : Bytes) (f : FieldPlaces) : Type 0 where
 pub record FieldPassed (t : Bytes) (c : Cursor) (f : FieldPlaces) (after : Cursor) : Type 0 where
   pub read : Reads t c parseField (ok (fieldAt t f)) after
   pub stands : FieldStands t f
+  pub laid : f ≡ fieldLaid t (c .at) (f .commented) (f .ruled) (partLaid t (nextAt t (f .name)) (f .part))
   pub first : firstOf (fieldAt t f .comment) (firstOf (fieldAt t f .rule) (fieldAt t f .name)) ≡ tokAt t (f .first)
   pub eats : c .at < after .at
 
@@ -147,6 +152,7 @@ pub record HeadStands (t : Bytes) (h : HeadPlaces) : Type 0 where
 pub record HeadPassed (t : Bytes) (c : Cursor) (h : HeadPlaces) (after : Cursor) : Type 0 where
   pub read : Reads t c parseHead (ok (headAt t h)) after
   pub stands : HeadStands t h
+  pub laid : h ≡ headLaid t (c .at) (h .commented)
   pub first : firstOf (headAt t h .comment) (headAt t h .keyword) ≡ tokAt t (h .first)
   pub eats : c .at < after .at
 
@@ -163,6 +169,7 @@ pub record ImportStands (t : Bytes) (i : ImportPlaces) : Type 0 where
 pub record ImportPassed (t : Bytes) (c : Cursor) (i : ImportPlaces) (after : Cursor) : Type 0 where
   pub read : Reads t (past t c) (parseImport (tokAt t (c .at))) (ok (importAt t i)) after
   pub stands : ImportStands t i
+  pub laid : i ≡ importLaid t (c .at) (i .aliased)
   pub first : i .first ≡ c .at
   pub last : lastOf (importAt t i .path) (importAt t i .alias) ≡ tokAt t (i .last)
 

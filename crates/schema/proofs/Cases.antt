@@ -1,24 +1,24 @@
 -- The definitions computed: a schema with every kind of record and its table; tables that are none.
 use mathlib.Core.Path.{_≡_, refl}
-use mathlib.Core.Bool.{Bool, true, false}
-use mathlib.Core.Option.{Option, none, some}
-use mathlib.Core.List.{List, [], _∷_, _++_, map}
+use mathlib.Core.Bool.{true, false}
+use mathlib.Core.Option.{none, some}
+use mathlib.Core.List.{[], _∷_, _++_, map}
 use lib.ListN.{length, replicate}
 use Prim.Native.Nat.{ℕ, zero, suc}
 use Rattle.wire.specs.Bytes.{Bytes, bytes}
 use Rattle.wire.specs.Le.{leBytes, leNumber, leAt}
 use Rattle.wire.specs.Record.{recordBytes, headBytes}
 use Rattle.wire.specs.Pick.{pick}
-use Rattle.token.specs.Token.{Token}
 use Rattle.token.specs.Kind.{kU64, kUnit}
 use Rattle.token.specs.Payload.{isComment, isPath, isParagraph, areParagraphs, paragraphOf, afterParagraph, paragraphsOf, paragraphBytes}
 use Rattle.token.specs.Table.{tokenOf, isWhole}
 use Rattle.identifier.specs.Order.{isBefore, nameOrder}
 use Rattle.identifier.specs.Forms.{snakeOf}
+use Rattle.identifier.specs.Name.{isName}
 use Rattle.identifier.specs.Byte.{lowerOf}
-use Rattle.schema.specs.Ast.{Range, TypeVariant, Rule, Field, Import, DeclarationVariant, Declaration, Schema}
-use Rattle.schema.specs.Encode.{encodeSchema, nowhere}
-use Rattle.schema.specs.Payload.{isName, isSized, isNamed, isImport, isCounted, isDeclaration, isField, indicesOf, isDeleted, isPlainType, isCustom, isTypePayload, isPayload}
+use Rattle.schema.specs.Ast.{Range, TypeVariant, Rule, DeclarationVariant, Schema}
+use Rattle.schema.specs.Encode.{encodeSchema}
+use Rattle.schema.specs.Payload.{isSized, isNamed, isImport, isCounted, isDeclaration, isField, indicesOf, isDeleted, isPlainType, isCustom, isTypePayload, isPayload}
 use Rattle.schema.specs.Table.{recordsOf, isFramed, mayFollow, isLater, rowAfter, isRight, isNext, isSchemaTable}
 use Rattle.schema.specs.Decode.{decodeSchema}
 

@@ -1,25 +1,25 @@
 -- The records that a schema within the limits is written as fit their places, and follow one another as a schema table's do.
-use mathlib.Core.Path.{_≡_, refl, sym, ap, _∙_}
-use mathlib.Core.Bool.{Bool, true, false, _&&_, _||_}
-use mathlib.Core.List.{List, [], _∷_, _++_}
-use Prim.Native.Nat.{ℕ, suc, _+_, _≤_, _<_}
+use mathlib.Core.Path.{_≡_, refl}
+use mathlib.Core.Bool.{Bool, true, false}
+use mathlib.Core.List.{List, [], _∷_}
+use Prim.Native.Nat.{ℕ, _+_, _≤_, _<_}
 use native.Mathlib.Nat.{zero-add}
 use native.Mathlib.Omega.{arith}
 use borrow.Author.Tests.{le-leb}
-use lib.Dec.{leb, eqb}
-use lib.ListN.{length}
+use lib.Dec.{eqb}
 use Rattle.wire.specs.Bytes.{Bytes}
 use Rattle.wire.specs.Pick.{pick}
 use Rattle.identifier.specs.Order.{isBefore}
 use Rattle.token.specs.Token.{Token}
 use Rattle.schema.specs.Ast.{Range, TypeVariant, Field, Import, DeclarationVariant, Declaration, Schema}
-use Rattle.schema.specs.Kind.{sComment, sImport, sStruct, sChoice, sField, sDeleted, sArray, sPlain, sCustom}
+use Rattle.schema.specs.Kind.{sImport, sStruct, sChoice, sField, sDeleted, sArray, sPlain, sCustom}
 use Rattle.schema.specs.Order.{isChainAfter, isChain}
 use Rattle.schema.specs.Limits.{Each, RangeWithin, CommentWithin, ImportWithin, TypeWithin, nesting, FieldWithin, DeletedWithin, DeclarationWithin, isEarlier, Within}
 use Rattle.schema.specs.Encode.{nowhere, declarationKind, declarationPayload, importPayload}
 use Rattle.schema.specs.Payload.{nameOf, isTypePayload, isPayload}
 use Rattle.schema.specs.Table.{mayFollow, isLater, rowAfter, isRight, isNext, areNext, outset}
-use Rattle.schema.proofs.Records.{both, Fits, AllFit}
+use Rattle.schema.proofs.Records.{both, AllFit}
+use Rattle.token.proofs.Encode.{Narrow}
 use Rattle.schema.proofs.Payloads.{Right, name-is, import-right, comment-right, declaration-right, field-right, deleted-right, plain-right, custom-right}
 use Rattle.schema.proofs.Written.{made, commentRecords, importRecords, typeRecords, fieldRecords, deletedRecords, declarationRecords, schemaRecords}
 
@@ -129,7 +129,7 @@ schema-next s w = go (s .comment) (w .comment) .are
         next refl (comment-right p ps v .right) refl (omega arith) (imports _ refl refl (record { struct = refl; choice = refl; end = refl }))
 
 -- the numbers of a record with a right payload
-fits : {rule : Bytes → Bool} {kind : ℕ} {r : Range} {p : Bytes} → kind < 65536 → RangeWithin r → Right rule p → Fits (made kind r p)
+fits : {rule : Bytes → Bool} {kind : ℕ} {r : Range} {p : Bytes} → kind < 65536 → RangeWithin r → Right rule p → Narrow (made kind r p)
 fits k r p = record { kind = k; start = r .start; end = r .end; size = p .short }
 
 nowhere-within : RangeWithin nowhere

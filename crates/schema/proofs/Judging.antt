@@ -1,11 +1,10 @@
 -- The check, record by record: r is its verdict on the table t, of which it has passed the records before `at`.
-use Prim.Native.Nat.{ℕ, _+_, _-_, _≤_, _<_}
-use mathlib.Core.Path.{_≡_, refl, sym, ap, _∙_}
+use Prim.Native.Nat.{ℕ, _-_, _≤_, _<_}
+use mathlib.Core.Path.{_≡_, refl, sym, _∙_}
 use mathlib.Core.Bool.{Bool, true, false, _&&_, and-false}
-use mathlib.Core.List.{List, [], _∷_}
 use native.Mathlib.Omega.{arith}
 use borrow.Author.Tests.{leb-true, eqb-true}
-use lib.Dec.{leb, eqb}
+use lib.Dec.{eqb}
 use lib.ListN.{length, take, drop, length-drop, drop-of-length-le}
 use Rattle.wire.specs.Bytes.{Bytes}
 use Rattle.wire.specs.Pick.{pick}

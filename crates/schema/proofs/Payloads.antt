@@ -1,28 +1,30 @@
 -- Within the limits a payload that was written is right and short, and gives its parts back.
-use mathlib.Core.Path.{_≡_, refl, sym, ap, _∙_}
-use mathlib.Core.Bool.{Bool, true, false, _&&_, _||_}
+use mathlib.Core.Path.{_≡_, refl, ap, _∙_}
+use mathlib.Core.Bool.{Bool, true, false, _||_}
 use mathlib.Core.Option.{Option, none, some}
 use mathlib.Core.List.{List, [], _∷_, _++_, append-assoc}
-use Prim.Native.Nat.{ℕ, zero, suc, _+_, _*_, _-_, _/_, _%_, _≤_, _<_}
+use Prim.Native.Nat.{ℕ, suc, _+_, _%_, _≤_, _<_}
 use native.Mathlib.Omega.{arith}
 use borrow.Author.Tests.{leb-true, le-leb, eq-eqb, ne-eqb, ltb-true, ltb-false}
 use lib.Dec.{leb, ltb, eqb}
 use lib.ListN.{length, getD, drop, length-append}
 use lib.Seq.{drop-at}
 use Rattle.wire.specs.Bytes.{Bytes}
-use Rattle.wire.specs.Le.{leBytes, leAt, u16At, u64At}
+use Rattle.wire.specs.Le.{leBytes, u16At, u64At}
 use Rattle.wire.specs.Pick.{pick}
 use Rattle.wire.proofs.Numbers.{leBytes-length, leAt-leBytes}
-use Rattle.identifier.specs.Byte.{within, isPrintable}
-use Rattle.token.specs.Kind.{isPlain, kBool, kBytes, kF64, kS64, kString, kU64, kUnit}
-use Rattle.token.specs.Payload.{all, atLeast, isPath, isPathByte, isComment, areParagraphs, paragraphsIn, paragraphsOf, paragraphBytes}
-use Rattle.schema.specs.Ast.{Range, TypeVariant, Rule, Field, Import, DeclarationVariant, Declaration}
-use Rattle.schema.specs.Limits.{Each, RangeWithin, CommentWithin, ImportWithin, OptionWithin, FieldWithin, DeletedWithin, DeclarationWithin}
+use Rattle.identifier.specs.Byte.{within}
+use Rattle.identifier.specs.Name.{isName}
+use Rattle.token.specs.Kind.{isPlain}
+use Rattle.token.specs.Payload.{all, isPath, isComment, areParagraphs, paragraphsIn, paragraphsOf, paragraphBytes}
+use Rattle.schema.specs.Ast.{Rule, Field, Import, Declaration}
+use Rattle.schema.specs.Limits.{CommentWithin, ImportWithin, OptionWithin, FieldWithin, DeletedWithin, DeclarationWithin}
 use Rattle.schema.specs.Encode.{sized, counted, importPayload, importPart, ruleNumber, fieldPayload, indices, declarationPayload}
-use Rattle.schema.specs.Payload.{isName, isSized, isNamed, nameOf, afterName, isImport, isCounted, isDeclaration, isField, indicesOf, isDeleted, isPlainType, isCustom}
+use Rattle.schema.specs.Payload.{isNamed, nameOf, afterName, isImport, isCounted, isDeclaration, isField, isDeleted, isPlainType, isCustom}
 use Rattle.schema.specs.Decode.{commentOf, optional, ruleOf}
 use Rattle.schema.proofs.Records.{both}
-use Rattle.schema.proofs.Parts.{name-of, after-name, is-sized, sized-number, sized-length, ParagraphsWritten, paragraphs-written, indices-written, indices-length}
+use Rattle.token.proofs.Paragraphs.{page-size, page-first, page-after, page-length, paragraphs-found, paragraphs-small}
+use Rattle.schema.proofs.Parts.{is-sized, indices-written, indices-length}
 
 pub record Short (name : Bytes) : Type 0 where
   pub low : 1 ≤ length name
@@ -50,18 +52,18 @@ module _ (name rest : Bytes) (e : isName name ≡ true) where
 
   pub named : isNamed (sized name ++ rest) ≡ true
   unfolding isNamed
-  named = rw (is-sized name rest name-fits, name-of name rest name-fits, e)
+  named = rw (is-sized name rest name-fits, page-first name rest name-fits, e)
 
   pub name-is : nameOf (sized name ++ rest) ≡ name
-  name-is = name-of name rest name-fits
+  name-is = page-first name rest name-fits
 
   pub after-is : afterName (sized name ++ rest) ≡ rest
-  after-is = after-name name rest name-fits
+  after-is = page-after name rest name-fits
 
   pub named-length : length (sized name ++ rest) ≤ 130 + length rest
   named-length =
       let s = name-short name e in
-      rw length-append (omega (arith, sized-length name rest name-fits))
+      omega (arith, page-length name rest name-fits)
 
 module _ (i : Import) (w : ImportWithin i) where
   pub import-right : Right isImport (importPayload i)
@@ -73,18 +75,21 @@ module _ (i : Import) (w : ImportWithin i) where
       }
 
 module _ (ps : List Bytes) (w : CommentWithin ps) where
-  written : ParagraphsWritten 32 ps
-  written = paragraphs-written 32 ps (w .few) (w .each)
+  found : (areParagraphs 32 (paragraphBytes ps) ≡ true) × (paragraphsIn 32 (paragraphBytes ps) ≡ ps)
+  found = paragraphs-found 32 ps (w .few) (w .each)
+
+  small : length (paragraphBytes ps) ≤ 32832
+  small = omega (arith, paragraphs-small 32 (paragraphBytes ps) (found .0))
 
   pub comment-is : commentOf (counted ps) ≡ ps
   unfolding paragraphsOf
-  comment-is = rw (drop-at (leBytes 2 (length ps)) (paragraphBytes ps) 2 (leBytes-length 2 (length ps))) (written .read)
+  comment-is = rw (drop-at (leBytes 2 (length ps)) (paragraphBytes ps) 2 (leBytes-length 2 (length ps))) (found .1)
 
   counted-length : length (counted ps) ≡ 2 + length (paragraphBytes ps)
   counted-length = rw (length-append, leBytes-length)
 
   counted-short : length (counted ps) ≤ 32834
-  counted-short = let a = written .short in let b = w .few in omega (arith, counted-length)
+  counted-short = let a = small in omega (arith, counted-length)
 
   counted-is : isCounted (counted ps) ≡ true
   unfolding isCounted paragraphsOf
@@ -93,9 +98,9 @@ module _ (ps : List Bytes) (w : CommentWithin ps) where
       rw (
         le-leb 2 (length (counted ps)) (omega (arith, counted-length)),
         drop-at (leBytes 2 (length ps)) (paragraphBytes ps) 2 (leBytes-length 2 (length ps)),
-        written .right,
+        found .0,
         leAt-leBytes 2 (length ps) [] (paragraphBytes ps) 0 refl (omega arith),
-        written .read,
+        found .1,
       )
       (eq-eqb (length ps) (length ps) refl)
 
@@ -111,11 +116,9 @@ module _ (ps : List Bytes) (w : CommentWithin ps) where
 pub comment-right : (p : Bytes) (ps : List Bytes) → CommentWithin (p ∷ ps) → Right isComment (paragraphBytes (p ∷ ps))
 unfolding isComment
 comment-right p ps w =
-    let v = written (p ∷ ps) w in
-    let a = v .short in
-    let b = w .few in
+    let a = small (p ∷ ps) w in
     let l : 1 ≤ length (paragraphBytes (p ∷ ps)) = unfold paragraphBytes leBytes in omega arith in
-    record { right = rw (le-leb 1 (length (paragraphBytes (p ∷ ps))) l, v .right); short = omega arith }
+    record { right = rw (le-leb 1 (length (paragraphBytes (p ∷ ps))) l, found (p ∷ ps) w .0); short = omega arith }
 
 pub declaration-right : (d : Declaration) → DeclarationWithin d → Right isDeclaration (declarationPayload d)
 declaration-right d w =
@@ -203,7 +206,7 @@ module _ (import : Option Bytes) (name : Bytes) (i : OptionWithin import) (e : i
   import-fits = let s = import-short import i in omega arith
 
   pub import-part : optional (nameOf (sized (importPart import) ++ name)) ≡ import
-  import-part = rw (name-of (importPart import) name import-fits) (go import i)
+  import-part = rw (page-first (importPart import) name import-fits) (go import i)
     where
       go : (import : Option Bytes) → OptionWithin import → optional (importPart import) ≡ import
       go none i = refl
@@ -211,7 +214,7 @@ module _ (import : Option Bytes) (name : Bytes) (i : OptionWithin import) (e : i
       go (some (b ∷ bs)) i = refl
 
   pub custom-name : afterName (sized (importPart import) ++ name) ≡ name
-  custom-name = after-name (importPart import) name import-fits
+  custom-name = page-after (importPart import) name import-fits
 
   pub custom-right : Right isCustom (sized (importPart import) ++ name)
   unfolding isCustom
@@ -220,8 +223,8 @@ module _ (import : Option Bytes) (name : Bytes) (i : OptionWithin import) (e : i
       let s = import-short import i in
       let t = name-short name e in
       record {
-        right = rw (is-sized part name import-fits, sized-number part name import-fits, name-of part name import-fits, custom-name, go import i, e);
-        short = rw length-append (omega (arith, sized-length part name import-fits));
+        right = rw (is-sized part name import-fits, page-size part name import-fits, page-first part name import-fits, custom-name, go import i, e);
+        short = omega (arith, page-length part name import-fits);
       }
     where
       go : (import : Option Bytes) → OptionWithin import → (eqb (length (importPart import)) 0 || isName (importPart import)) ≡ true

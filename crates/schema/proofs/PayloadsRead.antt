@@ -1,28 +1,29 @@
 -- A payload that is right is written back as it was read, and its parts are within the limits.
-use mathlib.Core.Path.{_≡_, refl, sym, ap, _∙_}
-use mathlib.Core.Bool.{Bool, true, false, _&&_, _||_}
-use mathlib.Core.Option.{Option, none, some}
+use mathlib.Core.Path.{_≡_, refl, ap, _∙_}
+use mathlib.Core.Bool.{true, _||_}
+use mathlib.Core.Option.{some}
 use mathlib.Core.List.{List, [], _∷_, _++_, append-assoc}
-use Prim.Native.Nat.{ℕ, zero, suc, _+_, _*_, _-_, _/_, _%_, _≤_, _<_}
+use Prim.Native.Nat.{ℕ, zero, suc, _+_, _/_, _%_, _≤_, _<_}
 use native.Mathlib.Omega.{arith}
 use borrow.Author.Tests.{leb-true, eqb-true, ne-eqb}
-use lib.Dec.{leb, ltb, eqb}
+use lib.Dec.{leb, eqb}
 use lib.ListN.{length, getD, take, drop, take-append-drop}
-use lib.Seq.{take-add, take-all}
+use lib.Seq.{take-all}
 use Rattle.wire.specs.Bytes.{Bytes}
-use Rattle.wire.specs.Le.{leBytes, leAt, u16At, u64At}
+use Rattle.wire.specs.Le.{leBytes, u16At, u64At}
 use Rattle.wire.specs.Pick.{pick}
 use Rattle.wire.proofs.Numbers.{AllBytes}
+use Rattle.identifier.specs.Name.{isName}
 use Rattle.token.specs.Kind.{isPlain}
-use Rattle.token.specs.Payload.{isPath, isComment, areParagraphs, paragraphOf, afterParagraph, paragraphsIn, paragraphsOf, paragraphBytes}
-use Rattle.schema.specs.Ast.{Range, TypeVariant, Rule, Field, Import, DeclarationVariant, Declaration}
-use Rattle.schema.specs.Limits.{Each, RangeWithin, CommentWithin, ImportWithin, OptionWithin, FieldWithin, DeletedWithin, DeclarationWithin}
-use Rattle.schema.specs.Order.{isChain}
-use Rattle.schema.specs.Encode.{sized, counted, importPayload, importPart, ruleNumber, fieldPayload, indices, declarationPayload}
-use Rattle.schema.specs.Payload.{isName, isSized, isNamed, nameOf, afterName, isImport, isCounted, isDeclaration, isField, indicesIn, indicesOf, isDeleted, isPlainType, isCustom}
+use Rattle.token.specs.Payload.{isPath, isComment, areParagraphs, paragraphsOf, paragraphBytes}
+use Rattle.schema.specs.Limits.{CommentWithin, OptionWithin, DeletedWithin}
+use Rattle.schema.specs.Encode.{sized, counted, importPart, ruleNumber, indices}
+use Rattle.schema.specs.Payload.{isSized, isNamed, nameOf, afterName, isImport, isCounted, isDeclaration, isField, indicesOf, isDeleted, isPlainType, isCustom}
 use Rattle.schema.specs.Decode.{commentOf, optional, ruleOf}
 use Rattle.schema.proofs.Records.{both}
-use Rattle.schema.proofs.Parts.{leBytes-leAt, leAt-fits, bytes-drop, bytes-after, Sized, sized-facts, name-back, ParagraphsRead, paragraphs-read, IndicesRead, indices-read}
+use Rattle.token.proofs.Paragraphs.{all-drop, paragraphs-good, paragraphs-again}
+use Rattle.token.proofs.Encode.{bytes-at}
+use Rattle.schema.proofs.Parts.{leAt-small, bytes-after, sized-facts, name-back, IndicesRead, indices-read}
 
 module _ (p : Bytes) (a : AllBytes p) where
   -- a name and what follows it
@@ -45,11 +46,11 @@ module _ (p : Bytes) (a : AllBytes p) where
   counted-read e =
       let b = both (leb 2 (length p)) _ e in
       let c = both (areParagraphs 32 (drop 2 p)) _ (b .1) in
-      let r = paragraphs-read 32 (drop 2 p) (c .0) (bytes-drop 2 p a) in
+      let g = paragraphs-good 32 (drop 2 p) (c .0) in
       let n = eqb-true (u16At p 0) (length (paragraphsOf (drop 2 p))) (c .1) in
       record {
-        within = record { few = r .few; each = r .each };
-        back = rw (← n, leBytes-leAt 2 p 0 (leb-true 2 (length p) (b .0)) a, r .back) (take-append-drop 2 p);
+        within = record { few = g .1; each = g .0 };
+        back = rw (← n, bytes-at 2 0 p a (leb-true 2 (length p) (b .0)), paragraphs-again 32 (drop 2 p) (all-drop 2 p a) (c .0)) (take-append-drop 2 p);
       }
 
 module _ (p : Bytes) (a : AllBytes p) where
@@ -99,13 +100,13 @@ field-read (b ∷ q) a e =
     let c = both (leb 9 (length p)) _ e in
     let r = both (leb b 2) _ (c .1) in
     let l = leb-true 9 (length p) (c .0) in
-    let d = declaration-read (drop 9 p) (bytes-drop 9 p a) (r .1) in
+    let d = declaration-read (drop 9 p) (all-drop 9 p a) (r .1) in
     record {
       name = d .name;
       comment = d .comment;
-      index = leAt-fits 8 p 1 a;
+      index = leAt-small 8 p 1 a l;
       back =
-          rw (rule-back b (leb-true b 2 (r .0)), leBytes-leAt 8 p 1 l a, append-assoc (take 8 q) (sized (nameOf (drop 8 q))) (counted (commentOf (afterName (drop 8 q)))), d .back)
+          rw (rule-back b (leb-true b 2 (r .0)), bytes-at 8 1 p a l, append-assoc (take 8 q) (sized (nameOf (drop 8 q))) (counted (commentOf (afterName (drop 8 q)))), d .back)
           (ap (λ (bs : Bytes). b ∷ bs) (take-append-drop 8 q));
     }
 
@@ -148,8 +149,9 @@ pub comment-read : (p : Bytes) → AllBytes p → isComment p ≡ true → Comme
 unfolding isComment paragraphsOf
 comment-read [] a e = let z : _≡_ {A = ℕ} 0 1 = cc in absurd (omega arith)
 comment-read (b ∷ q) a e =
-    let r = paragraphs-read 32 (b ∷ q) (both (leb 1 (length (b ∷ q))) _ e .1) a in
-    record { some = some-of (paragraphsOf (b ∷ q)) (omega arith); within = record { few = r .few; each = r .each }; back = r .back }
+    let are = both (leb 1 (length (b ∷ q))) _ e .1 in
+    let g = paragraphs-good 32 (b ∷ q) are in
+    record { some = some-of (paragraphsOf (b ∷ q)) (omega arith); within = record { few = g .1; each = g .0 }; back = paragraphs-again 32 (b ∷ q) a are }
 
 pub record PlainRead (p : Bytes) : Type 0 where
   pub kind : isPlain (u16At p 0) ≡ true
@@ -160,7 +162,7 @@ unfolding isPlainType
 plain-read p a e =
     let b = both (eqb (length p) 2) _ e in
     let l = eqb-true (length p) 2 (b .0) in
-    record { kind = b .1; back = leBytes-leAt 2 p 0 (omega arith) a ∙ take-all 2 p (omega arith) }
+    record { kind = b .1; back = bytes-at 2 0 p a (omega arith) ∙ take-all 2 p (omega arith) }
 
 pub record CustomRead (p : Bytes) : Type 0 where
   pub import : OptionWithin (optional (nameOf p))

@@ -1,23 +1,22 @@
 -- The schema of the records that a schema was written as, within the limits: the same.
-use mathlib.Core.Path.{_≡_, refl, sym, ap, _∙_}
-use mathlib.Core.Bool.{Bool, true, false, _||_}
-use mathlib.Core.Option.{Option, none, some}
-use mathlib.Core.List.{List, [], _∷_, _++_}
+use mathlib.Core.Path.{_≡_, refl, ap, _∙_}
+use mathlib.Core.Bool.{true, _||_}
+use mathlib.Core.List.{List, [], _∷_}
 use Prim.Native.Nat.{ℕ}
 use lib.Dec.{eqb}
-use lib.ListN.{length, getD, drop}
+use lib.ListN.{drop}
 use Rattle.wire.specs.Bytes.{Bytes}
-use Rattle.wire.specs.Le.{leBytes, u16At, u64At}
 use Rattle.wire.specs.Pick.{pick}
 use Rattle.token.specs.Token.{Token}
-use Rattle.token.specs.Payload.{paragraphsOf, paragraphBytes}
-use Rattle.schema.specs.Ast.{Range, TypeVariant, Rule, Field, Import, DeclarationVariant, Declaration, Schema}
+use Rattle.token.specs.Payload.{paragraphsOf}
+use Rattle.schema.specs.Ast.{Range, TypeVariant, Field, Import, DeclarationVariant, Declaration, Schema}
 use Rattle.schema.specs.Kind.{sImport, sStruct, sChoice, sField, sArray, sPlain, sCustom}
-use Rattle.schema.specs.Limits.{Each, CommentWithin, ImportWithin, TypeWithin, FieldWithin, DeletedWithin, DeclarationWithin, Within}
+use Rattle.schema.specs.Limits.{Each, CommentWithin, ImportWithin, TypeWithin, FieldWithin, DeclarationWithin, Within}
 use Rattle.schema.specs.Encode.{nowhere, counted, declarationKind, declarationPayload, fieldPayload, importPayload}
-use Rattle.schema.specs.Payload.{nameOf, afterName, indicesOf}
-use Rattle.schema.specs.Decode.{rangeOf, openingOf, commentOf, importOf, importsOf, optional, typeOf, ruleOf, fieldOf, fieldsOf, deletedOf, variantOf, declarationOf, declarationsOf, schemaOf}
-use Rattle.schema.proofs.Parts.{IsIndex, indices-written, paragraphs-written}
+use Rattle.schema.specs.Payload.{nameOf, afterName}
+use Rattle.schema.specs.Decode.{openingOf, commentOf, importOf, importsOf, typeOf, fieldOf, fieldsOf, deletedOf, variantOf, declarationOf, declarationsOf, schemaOf}
+use Rattle.schema.proofs.Parts.{IsIndex, indices-written}
+use Rattle.token.proofs.Paragraphs.{paragraphs-found}
 use Rattle.schema.proofs.Payloads.{name-is, after-is, comment-is, body-is, index-is, rule-is, plain-is, import-part, custom-name}
 use Rattle.schema.proofs.Written.{made, commentRecords, importRecords, typeRecords, fieldRecords, deletedRecords, declarationRecords, schemaRecords}
 
@@ -161,7 +160,7 @@ module _ (is : List Import) (ds : List Declaration) where
       go : (is : List Import) → openingOf (importRecords is (declarationRecords ds)) ≡ []
       go [] = stop openingOf (λ r p rs. (refl, refl, refl)) ds
       go (i ∷ is) = refl
-  opening-is (p ∷ ps) w = unfold paragraphsOf in paragraphs-written 32 (p ∷ ps) (w .few) (w .each) .read
+  opening-is (p ∷ ps) w = unfold paragraphsOf in paragraphs-found 32 (p ∷ ps) (w .few) (w .each) .1
 
   imports-past : (ps : List Bytes) (rs : List Token) → importsOf (commentRecords ps rs) ≡ importsOf rs
   imports-past [] rs = refl

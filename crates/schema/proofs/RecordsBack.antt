@@ -1,21 +1,19 @@
 -- The records of a framed table are written back as they were read, and their numbers fit.
-use mathlib.Core.Path.{_≡_, refl, sym, ap, _∙_}
-use mathlib.Core.Bool.{Bool, true, false}
-use mathlib.Core.List.{List, [], _∷_, _++_}
-use Prim.Native.Nat.{ℕ, zero, suc, _+_, _-_, _≤_, _<_}
+use mathlib.Core.Path.{_≡_, refl, sym, _∙_}
+use mathlib.Core.Bool.{true}
+use mathlib.Core.List.{[], _∷_}
+use Prim.Native.Nat.{ℕ, zero, suc, _-_, _≤_}
 use native.Mathlib.Omega.{arith}
-use lib.ListN.{length, take, drop, length-take, length-drop, take-append-drop}
-use lib.Seq.{take-add}
+use lib.ListN.{length, drop, length-take, length-drop}
 use Rattle.wire.specs.Bytes.{Bytes}
-use Rattle.wire.specs.Le.{leBytes, leAt, u16At, u32At}
-use Rattle.wire.specs.Record.{headBytes, recordBytes}
 use Rattle.wire.proofs.Numbers.{AllBytes}
-use Rattle.token.specs.Token.{Token}
 use Rattle.token.specs.Table.{sizeOf, tokenOf, encodeTokens}
 use Rattle.schema.specs.Limits.{Each}
 use Rattle.schema.specs.Table.{recordsOf, isFramed}
-use Rattle.schema.proofs.Records.{Whole, Fits, records-step, framed-step, framed-whole}
-use Rattle.schema.proofs.Parts.{bytes-take, bytes-drop, leAt-fits, leBytes-leAt}
+use Rattle.schema.proofs.Records.{Whole, records-step, framed-step, framed-whole}
+use Rattle.schema.proofs.Parts.{leAt-small}
+use Rattle.token.proofs.Encode.{record-again}
+use Rattle.token.proofs.Paragraphs.{all-take, all-drop}
 use Rattle.schema.proofs.WriteBack.{Read}
 
 module _ (t : Bytes) (w : Whole t) (a : AllBytes t) where
@@ -28,30 +26,12 @@ module _ (t : Bytes) (w : Whole t) (a : AllBytes t) where
   token-read =
       let l = payload-length in
       let h = w .head in
-      let s = leAt-fits 2 t 0 a in
-      record {
-        fits = record { kind = leAt-fits 2 t 2 a; start = leAt-fits 4 t 4 a; end = leAt-fits 4 t 8 a; size = omega arith };
-        bytes = bytes-take (sizeOf t - 12) (drop 12 t) (bytes-drop 12 t a);
-      }
-
-  token-back : recordBytes (tokenOf t .kind) (tokenOf t .start) (tokenOf t .end) (tokenOf t .payload) ≡ take (sizeOf t) t
-  unfolding tokenOf recordBytes headBytes
-  token-back =
-      let h = w .head in
       let k = w .tail in
-      let e : 12 + length (tokenOf t .payload) ≡ sizeOf t = omega (arith, payload-length) in
-      rw (
-        e,
-        leBytes-leAt 2 t 0 (omega arith) a,
-        leBytes-leAt 2 t 2 (omega arith) a,
-        leBytes-leAt 4 t 4 (omega arith) a,
-        leBytes-leAt 4 t 8 (omega arith) a,
-        ← (take-add 2 2 t),
-        ← (take-add 4 4 t),
-        ← (take-add 8 4 t),
-        ← (take-add 12 (sizeOf t - 12) t),
-      )
-      (let n : 12 + (sizeOf t - 12) ≡ sizeOf t = omega arith in rw n)
+      let s = leAt-small 2 t 0 a (omega arith) in
+      record {
+        fits = record { kind = leAt-small 2 t 2 a (omega arith); start = leAt-small 4 t 4 a (omega arith); end = leAt-small 4 t 8 a (omega arith); size = omega arith };
+        bytes = all-take (sizeOf t - 12) (drop 12 t) (all-drop 12 t a);
+      }
 
 -- a framed table
 pub record Back (t : Bytes) : Type 0 where
@@ -71,9 +51,9 @@ back-from (suc n) (b ∷ bs) h a e =
     let t = b ∷ bs in
     let w = framed-whole t (omega arith) e in
     let i = w .head in
-    let r = back-from n (drop (sizeOf t) t) (rw length-drop (omega arith)) (bytes-drop (sizeOf t) t a) (sym (framed-step t w) ∙ e) in
+    let r = back-from n (drop (sizeOf t) t) (rw length-drop (omega arith)) (all-drop (sizeOf t) t a) (sym (framed-step t w) ∙ e) in
     record {
-      back = rw (records-step t w, token-back t w a, r .back) (take-append-drop (sizeOf t) t);
+      back = rw (records-step t w, r .back) (record-again t a w);
       read = rw (records-step t w) (token-read t w a, r .read);
     }
 

@@ -13,8 +13,8 @@ use Rattle.token.specs.Table.{encodeTokens}
 use Rattle.schema.specs.Ast.{Schema, Declaration}
 use Rattle.schema.specs.Encode.{encodeSchema}
 use Rattle.schema.specs.Order.{isChain}
-use Rattle.schema.specs.Table.{recordsOf, isFramed, areNext, outset, isSchemaTable}
-use Rattle.schema.specs.Decode.{schemaOf, decodeSchema, settled}
+use Rattle.schema.specs.Table.{recordsOf, isFramed, isSchemaTable}
+use Rattle.schema.specs.Decode.{decodeSchema, settled}
 use Rattle.schema.specs.Limits.{Each, DeclarationWithin, isEarlier, Within}
 use Rattle.schema.proofs.Records.{both, records-encode, framed-encode}
 use Rattle.schema.proofs.RecordsBack.{Back, records-back}

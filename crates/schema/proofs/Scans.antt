@@ -1,78 +1,19 @@
--- Parts of a payload that code walks or tests: paragraphs counted, indices compared, a count and its paragraphs.
-use mathlib.Core.Path.{_≡_, refl, sym, ap, _∙_}
+-- Parts of a payload that code walks or tests: indices compared, a count and its paragraphs.
+use mathlib.Core.Path.{_≡_, sym, _∙_}
 use mathlib.Core.Bool.{Bool, true, false, not, _&&_}
-use mathlib.Core.List.{List, [], _∷_}
-use Prim.Native.Nat.{ℕ, zero, suc, _+_, _-_, _/_, _%_, _≤_, _<_}
-use native.Mathlib.Nat.{add-zero, zero-add}
+use mathlib.Core.List.{[]}
+use Prim.Native.Nat.{ℕ, suc, _+_, _-_, _/_, _%_, _≤_, _<_}
 use native.Mathlib.Omega.{arith}
-use borrow.Author.Tests.{leb-true, lt-ltb, le-ltb, le-leb, eq-eqb, not-true, not-false}
-use lib.Dec.{leb, ltb, eqb}
+use borrow.Author.Tests.{lt-ltb, le-ltb, le-leb, eq-eqb, not-true, not-false}
+use lib.Dec.{ltb, eqb}
 use lib.ListN.{length, take, drop, length-take, length-drop, drop-of-length-le}
 use lib.Seq.{drop-drop}
 use Rattle.wire.specs.Bytes.{Bytes}
 use Rattle.wire.specs.Le.{leAt, u16At, u64At}
 use Rattle.token.proofs.Laws.{part-from}
-use Rattle.token.specs.Payload.{isComment, isParagraph, areParagraphs, paragraphOf, afterParagraph, paragraphsIn, paragraphsOf}
-use Rattle.schema.specs.Order.{isChainAfter, isChain}
-use Rattle.schema.specs.Payload.{isSized, indicesIn, indicesOf, isDeleted, isCounted}
-use Rattle.schema.proofs.Records.{both}
-use Rattle.schema.proofs.Parts.{sized-facts, paragraphs-step, are-step}
-
--- `count` of the paragraphs of p end at `at`
-pub record Counting (p : Bytes) (count at : ℕ) : Type 0 where
-  pub inside : at ≤ length p
-  pub more : ℕ
-  pub few : count + more ≡ 32
-  pub right : areParagraphs more (drop at p) ≡ true
-  pub left : count + length (paragraphsIn more (drop at p)) ≡ length (paragraphsOf p)
-
-pub counting : {p : Bytes} → areParagraphs 32 p ≡ true → Counting p 0 0
-unfolding paragraphsOf
-counting e = record { inside = omega arith; more = 32; few = refl; right = e; left = zero-add _ }
-
-pub record Counted (p : Bytes) (count at : ℕ) : Type 0 where
-  pub low : count < 32
-  pub tail : at + 2 + u16At p at ≤ length p
-  pub next : Counting p (count + 1) (at + 2 + u16At p at)
-
-none-more : (bs : Bytes) → 0 < length bs → areParagraphs 0 bs ≡ true → ⊥
-unfolding areParagraphs
-none-more [] h e = omega arith
-none-more (b ∷ bs) h e = let z : _≡_ {A = ℕ} 0 1 = cc in omega arith
-
-pub counted : {p : Bytes} {count at : ℕ} → Counting p count at → at < length p → Counted p count at
-unfolding afterParagraph leAt
-counted {p} {count} {at} c h = go (c .more) (c .few) (c .right) (c .left)
-  where
-    bs : Bytes
-    bs = drop at p
-
-    some : 0 < length bs
-    some = rw length-drop (omega (arith, h))
-
-    after : afterParagraph bs ≡ drop (at + 2 + u16At p at) p
-    after = rw (drop-drop 2 at p, drop-drop (u16At p at) (at + 2) p)
-
-    go : (more : ℕ) → count + more ≡ 32 → areParagraphs more bs ≡ true → count + length (paragraphsIn more bs) ≡ length (paragraphsOf p) → Counted p count at
-    go zero f r l = absurd (none-more bs some r)
-    go (suc more) f r l =
-        let a = both (isSized bs) _ (sym (are-step more bs some) ∙ r) in
-        let b = both (isParagraph (paragraphOf bs)) _ (a .1) in
-        let s = sized-facts bs (a .0) .room in
-        let k : length bs ≡ length p - at = length-drop at p in
-        let m : count + suc (length (paragraphsIn more (afterParagraph bs))) ≡ length (paragraphsOf p) = rw (paragraphs-step more bs some) at l in
-        record {
-          low = omega arith;
-          tail = omega arith;
-          next = record { inside = omega arith; more = more; few = omega arith; right = rw after at (b .1); left = rw (← after) (omega arith) };
-        }
-
-pub counting-end : {p : Bytes} {count at : ℕ} → Counting p count at → length p ≤ at → count ≡ length (paragraphsOf p)
-counting-end {p} {count} c h = sym (add-zero count) ∙ go (c .more) (rw (drop-of-length-le p h) at (c .left))
-  where
-    go : (more : ℕ) → count + length (paragraphsIn more []) ≡ length (paragraphsOf p) → count + 0 ≡ length (paragraphsOf p)
-    go zero l = l
-    go (suc more) l = l
+use Rattle.token.specs.Payload.{isComment, areParagraphs, paragraphsOf}
+use Rattle.schema.specs.Order.{isChainAfter}
+use Rattle.schema.specs.Payload.{indicesIn, indicesOf, isDeleted, isCounted}
 
 -- the indices of p up to `at` ascend, `last` being the last of them; r is whether all do
 pub record Ascending (p : Bytes) (last at : ℕ) (r : Bool) : Type 0 where
@@ -133,9 +74,6 @@ module _ (p : Bytes) (h : 2 ≤ length p) where
     pub counted-not : not x ≡ true → false ≡ isCounted p
     unfolding isCounted
     counted-not n = rw (le-leb 2 (length p) h, are-comment, not-true x n)
-
-    pub counted-are : not x ≡ false → areParagraphs 32 rest ≡ true
-    counted-are n = rw (part-from p 2) (are-comment ∙ not-false x n)
 
     pub counted-all : {count n : ℕ} → not x ≡ false → count ≡ u16At p 0 → n ≡ length (paragraphsOf rest) → eqb count n ≡ isCounted p
     unfolding isCounted

@@ -1,23 +1,24 @@
 -- What the records of a schema table hold, by the kind of the first: its payload's rule, what may follow it, and the parts of the schema.
-use mathlib.Core.Path.{_≡_, refl, sym, ap, _∙_, subst}
-use mathlib.Core.Bool.{Bool, true, false, _&&_, _||_}
+use mathlib.Core.Path.{_≡_, refl, sym, _∙_, subst}
+use mathlib.Core.Bool.{Bool, true, false, _||_}
 use mathlib.Core.List.{List, [], _∷_}
-use Prim.Native.Nat.{ℕ, zero, suc, _+_, _≤_, _<_}
+use Prim.Native.Nat.{ℕ, _+_, _≤_}
 use native.Mathlib.Omega.{arith}
 use borrow.Author.Tests.{leb-true, eqb-true}
-use lib.Dec.{leb, eqb}
+use lib.Dec.{eqb}
 use lib.ListN.{length}
 use Rattle.wire.specs.Bytes.{Bytes}
 use Rattle.wire.specs.Le.{u16At}
 use Rattle.wire.specs.Pick.{pick}
 use Rattle.token.specs.Token.{Token}
 use Rattle.token.specs.Payload.{isComment, paragraphsOf}
-use Rattle.schema.specs.Ast.{Range, TypeVariant}
-use Rattle.schema.specs.Kind.{sComment, sImport, sStruct, sChoice, sField, sDeleted, sArray, sPlain, sCustom}
+use Rattle.schema.specs.Ast.{TypeVariant}
+use Rattle.schema.specs.Kind.{sComment, sImport, sStruct, sField, sDeleted, sArray, sPlain, sCustom}
 use Rattle.schema.specs.Limits.{nesting}
+use Rattle.schema.specs.Encode.{declarationKind}
 use Rattle.schema.specs.Payload.{nameOf, afterName, indicesOf, isImport, isDeclaration, isField, isDeleted, isPlainType, isCustom, isTypePayload, isPayload}
 use Rattle.schema.specs.Table.{mayFollow, isOutside, isImporting, isInside, isType, isLater, rowAfter, isRight, isNext, areNext}
-use Rattle.schema.specs.Decode.{rangeOf, openingOf, importOf, importsOf, optional, typeOf, fieldOf, fieldsOf, deletedOf, declarationOf, declarationsOf}
+use Rattle.schema.specs.Decode.{rangeOf, openingOf, importOf, importsOf, optional, typeOf, fieldOf, fieldsOf, deletedOf, variantOf, declarationOf, declarationsOf, settled}
 use Rattle.schema.proofs.Records.{both}
 use Rattle.schema.proofs.Written.{made}
 
@@ -76,6 +77,8 @@ module _ (r : Token) (rs : List Token) where
     pub fields : fieldsOf (r ∷ rs) ≡ []
     pub deleted : deletedOf (r ∷ rs) ≡ []
     pub declarations : declarationsOf (r ∷ rs) ≡ declarationOf r (fieldsOf rs) (deletedOf rs) ∷ declarationsOf rs
+    pub kind : declarationKind (variantOf (r .kind)) ≡ r .kind
+    pub settles : settled r ≡ r
 
   pub record AtField : Type 0 where
     pub rule : isField (r .payload) ≡ true
@@ -121,8 +124,8 @@ module _ (rs : List Token) where
   at-declaration r e =
       either (eqb (r .kind) 0) _ e (λ q. at-kind P r (eqb-true _ _ q) (λ p. never p))
       (λ e. either (eqb (r .kind) sStruct) _ e
-      (λ q. at-kind P r (eqb-true _ _ q) (λ p. record { rule = p; after = λ k. refl; opening = refl; imports = refl; fields = refl; deleted = refl; declarations = refl }))
-      (λ q. at-kind P r (eqb-true _ _ q) (λ p. record { rule = p; after = λ k. refl; opening = refl; imports = refl; fields = refl; deleted = refl; declarations = refl })))
+      (λ q. at-kind P r (eqb-true _ _ q) (λ p. record { rule = p; after = λ k. refl; opening = refl; imports = refl; fields = refl; deleted = refl; declarations = refl; kind = refl; settles = refl }))
+      (λ q. at-kind P r (eqb-true _ _ q) (λ p. record { rule = p; after = λ k. refl; opening = refl; imports = refl; fields = refl; deleted = refl; declarations = refl; kind = refl; settles = refl })))
     where
       P : Token → Type 0
       P r = Payload r → AtDeclaration r rs

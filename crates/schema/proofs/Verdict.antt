@@ -1,5 +1,5 @@
 -- What the check's answer says of the bytes.
-use mathlib.Core.Path.{_≡_, refl, sym, ap, _∙_}
+use mathlib.Core.Path.{_≡_, refl, ap, _∙_}
 use mathlib.Core.Bool.{Bool, true, false}
 use mathlib.Core.Option.{Option, none, some}
 use Prim.Native.Nat.{ℕ, _≤_, _<_}
@@ -13,7 +13,6 @@ use Rattle.schema.specs.Ast.{Schema}
 use Rattle.schema.specs.Table.{recordsOf, isSchemaTable}
 use Rattle.schema.specs.Decode.{schemaOf, decodeSchema}
 use Rattle.schema.specs.Checked.{answerOf, checked}
-use Rattle.schema.specs.declared.Checked.{Checked}
 use Rattle.schema.specs.declared.Checked.the-variants.{Refused, Fine}
 
 -- where decoding gives a schema, the bytes are a schema table, and it holds that schema

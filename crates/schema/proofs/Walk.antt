@@ -1,19 +1,18 @@
 -- From record to record: at a place that stands in a table, what the record there is, and that the next place stands.
 use Prim.Native.Nat.{ℕ, _+_, _-_, _≤_, _<_}
-use mathlib.Core.Path.{_≡_, refl, sym, ap, _∙_}
-use mathlib.Core.Bool.{Bool, true, _&&_}
-use mathlib.Core.List.{List, [], _∷_}
+use mathlib.Core.Path.{_≡_, refl, sym, _∙_}
+use mathlib.Core.Bool.{Bool, true}
+use mathlib.Core.List.{[], _∷_}
 use native.Mathlib.Nat.{zero-add}
 use native.Mathlib.Omega.{arith}
-use lib.ListN.{length, take, drop, length-drop, drop-of-length-le}
+use lib.ListN.{length, drop, length-drop, drop-of-length-le}
 use lib.Seq.{drop-drop}
 use Rattle.wire.specs.Bytes.{Bytes}
 use Rattle.wire.specs.Le.{leAt, u16At}
 use Rattle.wire.specs.Pick.{pick}
-use Rattle.token.specs.Token.{Token}
-use Rattle.token.specs.Table.{sizeOf, tokenOf}
+use Rattle.token.specs.Table.{tokenOf}
 use Rattle.schema.specs.Payload.{isPayload}
-use Rattle.schema.specs.Table.{recordsOf, isFramed, mayFollow, isRight, isNext, areNext, rowAfter, outset, isSchemaTable}
+use Rattle.schema.specs.Table.{recordsOf, isFramed, mayFollow, isRight, isNext, rowAfter, outset, isSchemaTable}
 use Rattle.schema.specs.Walk.{recordsFrom, kindAt, nextAt, payloadAt, tokenAt, WholeAt, Stands}
 use Rattle.schema.specs.Kind.{sField}
 use Rattle.schema.specs.Limits.{nesting}

@@ -1,12 +1,12 @@
 -- The records that the schema of a schema table is written as: those of the table. And that schema is within the limits.
-use mathlib.Core.Path.{_≡_, refl, sym, ap, _∙_, subst}
-use mathlib.Core.Bool.{Bool, true, false, _&&_, _||_}
-use mathlib.Core.List.{List, [], _∷_, _++_, map}
-use Prim.Native.Nat.{ℕ, zero, suc, _+_, _≤_, _<_}
+use mathlib.Core.Path.{_≡_, refl, sym, _∙_}
+use mathlib.Core.Bool.{Bool, true, false}
+use mathlib.Core.List.{List, [], _∷_, map}
+use Prim.Native.Nat.{ℕ, _+_, _≤_}
 use native.Mathlib.Nat.{zero-add}
 use native.Mathlib.Omega.{arith}
-use borrow.Author.Tests.{leb-true, eqb-true, eq-eqb}
-use lib.Dec.{leb, eqb}
+use borrow.Author.Tests.{eqb-true, eq-eqb}
+use lib.Dec.{eqb}
 use lib.ListN.{length}
 use Rattle.wire.specs.Bytes.{Bytes}
 use Rattle.wire.specs.Pick.{pick}
@@ -14,22 +14,22 @@ use Rattle.wire.proofs.Numbers.{AllBytes}
 use Rattle.identifier.specs.Order.{isBefore}
 use Rattle.token.specs.Token.{Token}
 use Rattle.token.specs.Payload.{paragraphsOf, paragraphBytes}
-use Rattle.schema.specs.Ast.{Range, TypeVariant, Field, Import, DeclarationVariant, Declaration, Schema}
-use Rattle.schema.specs.Kind.{sComment, sImport, sStruct, sChoice, sField, sDeleted, sArray, sPlain, sCustom}
+use Rattle.schema.specs.Ast.{Range}
+use Rattle.schema.specs.Kind.{sComment, sImport, sField, sDeleted, sArray, sPlain, sCustom}
 use Rattle.schema.specs.Order.{isChainAfter, isChain}
 use Rattle.schema.specs.Limits.{Each, RangeWithin, CommentWithin, ImportWithin, TypeWithin, nesting, FieldWithin, DeletedWithin, DeclarationWithin, isEarlier, Within}
 use Rattle.schema.specs.Encode.{nowhere, indices}
 use Rattle.schema.specs.Payload.{nameOf, indicesOf, isTypePayload, isPayload}
-use Rattle.schema.specs.Table.{mayFollow, isOutside, isImporting, isInside, isType, isLater, rowAfter, isRight, isNext, areNext, outset}
+use Rattle.schema.specs.Table.{mayFollow, isOutside, isImporting, isInside, isType, isLater, rowAfter, areNext, outset}
 use Rattle.schema.specs.Decode.{rangeOf, openingOf, importOf, importsOf, typeOf, fieldsOf, deletedOf, declarationsOf, schemaOf, settled}
-use Rattle.schema.proofs.Records.{Fits}
-use Rattle.schema.proofs.Steps.{After, at-kind, never, either, NextIs, next-is}
+use Rattle.token.proofs.Encode.{Narrow}
+use Rattle.schema.proofs.Steps.{After, at-declaration, at-kind, never, either, NextIs, next-is}
 use Rattle.schema.proofs.PayloadsRead.{Some, import-read, declaration-read, field-read, deleted-read, comment-read, plain-read, custom-read}
 use Rattle.schema.proofs.Written.{made, commentRecords, importRecords, typeRecords, fieldRecords, deletedRecords, declarationRecords, schemaRecords}
 
 -- what a table's bytes show of each record
 pub record Read (r : Token) : Type 0 where
-  pub fits : Fits r
+  pub fits : Narrow r
   pub bytes : AllBytes (r .payload)
 
 range-within : {r : Token} → Read r → RangeWithin (rangeOf r)
@@ -84,33 +84,15 @@ module _ (rs : List Token) (h : Parts rs) (last : Token) (row : ℕ) where
   abbrev Gives : (List Token → Type 0) → Token → Type 0
   Gives Q r = Read r → NextIs last row r rs → Q (r ∷ rs)
 
-  struct-gives : (range : Range) (p : Bytes) → Gives OutsideParts (made sStruct range p)
-  unfolding isPayload isTypePayload mayFollow pick
-  struct-gives range p read n =
-      let i = h .inside _ _ (λ k. refl) (n .rest) in
-      let d = declaration-read p (read .bytes) (n .payload) in
+  outside-gives : (r : Token) → isOutside (r .kind) ≡ true → Gives OutsideParts r
+  outside-gives r e read n =
+      let a = at-declaration rs r e (n .payload) in
+      let i = h .inside r _ (a .after) (n .rest) in
+      let d = declaration-read (r .payload) (read .bytes) (a .rule) in
       record {
-        back = rw (d .back, i .back);
-        declarations = (record { range = range-within read; comment = d .comment; name = d .name; fields = i .fields; deleted = i .deleted }, i .declarations);
+        back = rw (a .declarations, a .kind, d .back, i .back, a .settles);
+        declarations = rw (a .declarations) (record { range = range-within read; comment = d .comment; name = d .name; fields = i .fields; deleted = i .deleted }, i .declarations);
       }
-
-  choice-gives : (range : Range) (p : Bytes) → Gives OutsideParts (made sChoice range p)
-  unfolding isPayload isTypePayload mayFollow pick
-  choice-gives range p read n =
-      let i = h .inside _ _ (λ k. refl) (n .rest) in
-      let d = declaration-read p (read .bytes) (n .payload) in
-      record {
-        back = rw (d .back, i .back);
-        declarations = (record { range = range-within read; comment = d .comment; name = d .name; fields = i .fields; deleted = i .deleted }, i .declarations);
-      }
-
-  -- where a declaration begins, or the table would end
-  outside-gives : (Q : List Token → Type 0) → ((range : Range) (p : Bytes) → Gives Q (made sStruct range p)) → ((range : Range) (p : Bytes) → Gives Q (made sChoice range p))
-      → (r : Token) → isOutside (r .kind) ≡ true → Gives Q r
-  unfolding isPayload isTypePayload pick
-  outside-gives Q s c r e =
-      either (eqb (r .kind) 0) _ e (λ q. at-kind (Gives Q) r (eqb-true _ _ q) (λ read n. never (n .payload)))
-      (λ e. either (eqb (r .kind) sStruct) _ e (λ q. at-kind (Gives Q) r (eqb-true _ _ q) (s (rangeOf r) (r .payload))) (λ q. at-kind (Gives Q) r (eqb-true _ _ q) (c (rangeOf r) (r .payload))))
 
   field-gives : (range : Range) (p : Bytes) → Gives InsideParts (made sField range p)
   unfolding isPayload isTypePayload mayFollow pick rowAfter
@@ -138,10 +120,10 @@ module _ (rs : List Token) (h : Parts rs) (last : Token) (row : ℕ) where
   inside-gives r e =
       either (eqb (r .kind) sField) _ e (λ q. at-kind (Gives InsideParts) r (eqb-true _ _ q) (field-gives (rangeOf r) (r .payload)))
       (λ e. either (eqb (r .kind) sDeleted) _ e (λ q. at-kind (Gives InsideParts) r (eqb-true _ _ q) (deleted-gives (rangeOf r) (r .payload)))
-      (outside-gives InsideParts
-      (λ range p read n. let o = struct-gives range p read n in record { back = o .back; fields = tt; deleted = none; declarations = o .declarations })
-      (λ range p read n. let o = choice-gives range p read n in record { back = o .back; fields = tt; deleted = none; declarations = o .declarations })
-      r))
+      (λ e read n.
+      let a = at-declaration rs r e (n .payload) in
+      let o = outside-gives r e read n in
+      record { back = rw (a .fields, a .deleted) (o .back); fields = rw (a .fields) tt; deleted = rw (a .deleted) none; declarations = o .declarations }))
 
   array-gives : (range : Range) (p : Bytes) → Gives (TypedParts row) (made sArray range p)
   unfolding isPayload isTypePayload mayFollow pick rowAfter
@@ -202,16 +184,14 @@ module _ (rs : List Token) (h : Parts rs) (last : Token) (row : ℕ) where
   imports-gives : (r : Token) → isImporting (r .kind) ≡ true → Gives (ImportParts last) r
   imports-gives r e =
       either (eqb (r .kind) sImport) _ e (λ q. at-kind (Gives (ImportParts last)) r (eqb-true _ _ q) (import-gives (rangeOf r) (r .payload)))
-      (outside-gives (ImportParts last)
-      (λ range p read n. let o = struct-gives range p read n in record { back = o .back; imports = tt; ascending = refl; later = λ _. refl; declarations = o .declarations })
-      (λ range p read n. let o = choice-gives range p read n in record { back = o .back; imports = tt; ascending = refl; later = λ _. refl; declarations = o .declarations })
-      r)
+      (λ e read n.
+      let a = at-declaration rs r e (n .payload) in
+      let o = outside-gives r e read n in
+      record { back = rw (a .imports) (o .back); imports = rw (a .imports) tt; ascending = rw (a .imports); later = λ _. rw (a .imports); declarations = o .declarations })
 
 parts-step : (r : Token) (rs : List Token) → Read r → Parts rs → Parts (r ∷ rs)
 parts-step r rs read h = record {
-  outside = λ last row f e.
-      let n = next-is e in
-      outside-gives rs h last row OutsideParts (struct-gives rs h last row) (choice-gives rs h last row) r (sym (f (r .kind)) ∙ n .follow) read n;
+  outside = λ last row f e. let n = next-is e in outside-gives rs h last row r (sym (f (r .kind)) ∙ n .follow) read n;
   inside = λ last row f e. let n = next-is e in inside-gives rs h last row r (sym (f (r .kind)) ∙ n .follow) read n;
   typed = λ last row f l e. let n = next-is e in typed-gives rs h last row l r (sym (f (r .kind)) ∙ n .follow) read n;
   imports = λ last row f e. let n = next-is e in imports-gives rs h last row r (sym (f (r .kind)) ∙ n .follow) read n;
@@ -227,7 +207,7 @@ pub record SchemaParts (rs : List Token) : Type 0 where
   pub within : Within (schemaOf rs)
 
 no-comment : CommentWithin []
-no-comment = record { few = omega arith; each = tt }
+no-comment = record { few = omega arith; each = refl }
 
 schema-step : (r : Token) (rs : List Token) → Parts rs → Read r → NextIs outset 0 r rs → SchemaParts (r ∷ rs)
 unfolding isPayload isTypePayload mayFollow pick

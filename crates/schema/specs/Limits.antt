@@ -7,12 +7,12 @@ use Prim.Native.Nat.{ℕ, suc, _+_, _*_, _≤_, _<_}
 use lib.Dec.{ltb}
 use lib.ListN.{length}
 use Rattle.wire.specs.Bytes.{Bytes}
+use Rattle.identifier.specs.Name.{isName}
 use Rattle.identifier.specs.Order.{isBefore}
 use Rattle.token.specs.Kind.{isPlain}
-use Rattle.token.specs.Payload.{isPath, isParagraph}
+use Rattle.token.specs.Payload.{isPath, allParagraphs}
 use Rattle.schema.specs.Ast.{Range, TypeVariant, Field, Import, Declaration, Schema}
 use Rattle.schema.specs.Order.{isChain}
-use Rattle.schema.specs.Payload.{isName}
 
 -- all of them
 abbrev pub Each : {A : Type 0} → (A → Type 0) → List A → Type 0
@@ -26,7 +26,7 @@ pub record RangeWithin (r : Range) : Type 0 where
 
 pub record CommentWithin (ps : List Bytes) : Type 0 where
   pub few : length ps ≤ 32
-  pub each : Each (λ p. isParagraph p ≡ true) ps
+  pub each : allParagraphs ps ≡ true
 
 pub record ImportWithin (i : Import) : Type 0 where
   pub range : RangeWithin (i .range)

@@ -1,21 +1,17 @@
 -- Document 01, "Tables": what a schema table's record may hold, by its kind. Each record is filled exactly.
 use Prim.Native.Nat.{ℕ, zero, suc, _+_, _/_, _%_}
-use mathlib.Core.Bool.{Bool, true, false, _&&_, _||_}
+use mathlib.Core.Bool.{Bool, false, _&&_, _||_}
 use mathlib.Core.List.{List, [], _∷_}
 use lib.Dec.{leb, ltb, eqb}
 use lib.ListN.{length, getD, drop}
 use Rattle.wire.specs.Bytes.{Bytes}
 use Rattle.wire.specs.Le.{u16At, u64At}
 use Rattle.wire.specs.Pick.{pick}
-use Rattle.identifier.specs.Byte.{within, isPrintable}
+use Rattle.identifier.specs.Name.{isName}
 use Rattle.token.specs.Kind.{isPlain}
-use Rattle.token.specs.Payload.{all, isPath, isComment, areParagraphs, paragraphOf, afterParagraph, paragraphsOf}
+use Rattle.token.specs.Payload.{isPath, isComment, areParagraphs, paragraphOf, afterParagraph, paragraphsOf}
 use Rattle.schema.specs.Kind.{sComment, sImport, sStruct, sChoice, sField, sDeleted, sArray, sPlain, sCustom}
 use Rattle.schema.specs.Order.{isChain}
-
--- 1 to 128 printable bytes
-unfoldable pub isName : Bytes → Bool
-isName p = within 1 128 (length p) && all isPrintable p
 
 -- a name stands after its length, as a paragraph does: the name, and what follows it
 abbrev pub nameOf : Bytes → Bytes

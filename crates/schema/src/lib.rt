@@ -1,38 +1,19 @@
 // Schema tables: the check of document 01 (R9), and the walk over a table that passed it.
 ghost use mathlib.Core.Path.{_≡_};
-ghost use mathlib.Core.Bool.{true, _||_};
+ghost use mathlib.Core.Bool.{true};
 ghost use Prim.Native.Nat.{_+_, _≤_, _<_};
-ghost use lib.Dec.{eqb};
 ghost use lib.ListN.{length};
+ghost use Rattle.identifier.specs.Byte.{classOf};
+ghost use Rattle.identifier.specs.Table.{table, Tables};
 ghost use Rattle.identifier.specs.Order.{isBefore};
 ghost use Rattle.token.specs.Kind.{isPlain};
-ghost use Rattle.token.specs.Payload.{areParagraphs, paragraphsOf};
-ghost use Rattle.schema.specs.Payload.{isName, isSized, nameOf, afterName, isNamed, isImport, isCounted, isDeclaration, isField, isDeleted, isPlainType, isCustom, isTypePayload, isPayload};
-ghost use Rattle.schema.specs.Table.{isOutside, isImporting, isInside, isType, mayFollow, rowAfter, isRight, isLater, isSchemaTable};
+ghost use Rattle.schema.specs.Payload.{isSized, nameOf, afterName, isNamed, isImport, isCounted, isDeclaration, isField, isDeleted, isPlainType, isCustom, isTypePayload, isPayload};
+ghost use Rattle.schema.specs.Table.{isOutside, isImporting, isType, mayFollow, rowAfter, isRight, isLater, isSchemaTable};
 ghost use Rattle.schema.specs.Checked.{checked};
 ghost use Rattle.schema.specs.Walk.{kindAt, startAt, endAt, nextAt, payloadAt, WholeAt};
 use identifier::Order;
 
 pub mod kind;
-
-fn is_name(p: &[u8]) -> bool
-    ensures { λ r. ⌜ r ≡ isName (now (p .entry)) ⌝ }
-{
-    if p.len() < 1 {
-        return false;
-    }
-    if 128 < p.len() {
-        return false;
-    }
-    let mut i = 0;
-    while i < p.len() {
-        if !token::is_printable(p[i]) {
-            return false;
-        }
-        i += 1;
-    }
-    true
-}
 
 fn is_sized(p: &[u8]) -> bool
     ensures { λ r. ⌜ r ≡ isSized (now (p .entry)) ⌝ }
@@ -61,35 +42,24 @@ pub fn after_name(p: &[u8]) -> &[u8]
     &p[end..]
 }
 
-fn is_named(p: &[u8]) -> bool
+fn is_named(class: &[u8; 256], p: &[u8]) -> bool
+    requires { ⌜ now class ≡ table classOf ⌝ }
     ensures { λ r. ⌜ r ≡ isNamed (now (p .entry)) ⌝ }
 {
     if !is_sized(p) {
         return false;
     }
-    is_name(name_of(p))
+    identifier::tables::is_name(class, name_of(p))
 }
 
-fn is_import(p: &[u8]) -> bool
+fn is_import(class: &[u8; 256], p: &[u8]) -> bool
+    requires { ⌜ now class ≡ table classOf ⌝ }
     ensures { λ r. ⌜ r ≡ isImport (now (p .entry)) ⌝ }
 {
-    if !is_named(p) {
+    if !is_named(class, p) {
         return false;
     }
     token::is_path(after_name(p))
-}
-
-fn paragraph_count(p: &[u8]) -> usize
-    requires { ⌜ areParagraphs 32 (now p) ≡ true ⌝ }
-    ensures { λ r. ⌜ r ≡ length (paragraphsOf (now (p .entry))) ⌝ }
-{
-    let mut count: usize = 0;
-    let mut at: usize = 0;
-    while at < p.len() {
-        at = at + 2 + (wire::u16_at(p, at) as usize);
-        count += 1;
-    }
-    count
 }
 
 fn is_counted(p: &[u8]) -> bool
@@ -98,7 +68,7 @@ fn is_counted(p: &[u8]) -> bool
     if p.len() < 2 {
         return false;
     }
-    let count = wire::u16_at(p, 0) as usize;
+    let count = wire::u16_at(p, 0);
     let rest = &p[2..];
     if rest.len() == 0 {
         return count == 0;
@@ -106,19 +76,21 @@ fn is_counted(p: &[u8]) -> bool
     if !token::is_comment(rest) {
         return false;
     }
-    count == paragraph_count(rest)
+    count == token::paragraph_count(rest)
 }
 
-fn is_declaration(p: &[u8]) -> bool
+fn is_declaration(class: &[u8; 256], p: &[u8]) -> bool
+    requires { ⌜ now class ≡ table classOf ⌝ }
     ensures { λ r. ⌜ r ≡ isDeclaration (now (p .entry)) ⌝ }
 {
-    if !is_named(p) {
+    if !is_named(class, p) {
         return false;
     }
     is_counted(after_name(p))
 }
 
-fn is_field(p: &[u8]) -> bool
+fn is_field(class: &[u8; 256], p: &[u8]) -> bool
+    requires { ⌜ now class ≡ table classOf ⌝ }
     ensures { λ r. ⌜ r ≡ isField (now (p .entry)) ⌝ }
 {
     if p.len() < 9 {
@@ -127,7 +99,7 @@ fn is_field(p: &[u8]) -> bool
     if 2 < p[0] {
         return false;
     }
-    is_declaration(&p[9..])
+    is_declaration(class, &p[9..])
 }
 
 fn is_deleted(p: &[u8]) -> bool
@@ -172,22 +144,24 @@ fn is_plain_type(p: &[u8]) -> bool
     is_plain(wire::u16_at(p, 0))
 }
 
-fn is_custom(p: &[u8]) -> bool
+fn is_custom(class: &[u8; 256], p: &[u8]) -> bool
+    requires { ⌜ now class ≡ table classOf ⌝ }
     ensures { λ r. ⌜ r ≡ isCustom (now (p .entry)) ⌝ }
 {
     if !is_sized(p) {
         return false;
     }
     if wire::u16_at(p, 0) == 0 {
-        return is_name(after_name(p));
+        return identifier::tables::is_name(class, after_name(p));
     }
-    if !is_name(name_of(p)) {
+    if !identifier::tables::is_name(class, name_of(p)) {
         return false;
     }
-    is_name(after_name(p))
+    identifier::tables::is_name(class, after_name(p))
 }
 
-fn is_type_payload(kind: u16, p: &[u8]) -> bool
+fn is_type_payload(class: &[u8; 256], kind: u16, p: &[u8]) -> bool
+    requires { ⌜ now class ≡ table classOf ⌝ }
     ensures { λ r. ⌜ r ≡ isTypePayload kind (now (p .entry)) ⌝ }
 {
     if kind == kind::ARRAY {
@@ -197,30 +171,31 @@ fn is_type_payload(kind: u16, p: &[u8]) -> bool
         return is_plain_type(p);
     }
     if kind == kind::CUSTOM {
-        return is_custom(p);
+        return is_custom(class, p);
     }
     false
 }
 
-fn is_payload(kind: u16, p: &[u8]) -> bool
+fn is_payload(class: &[u8; 256], kind: u16, p: &[u8]) -> bool
+    requires { ⌜ now class ≡ table classOf ⌝ }
     ensures { λ r. ⌜ r ≡ isPayload kind (now (p .entry)) ⌝ }
 {
     if kind == kind::COMMENT {
         return token::is_comment(p);
     }
     if kind == kind::IMPORT {
-        return is_import(p);
+        return is_import(class, p);
     }
     if (kind == kind::STRUCT) | (kind == kind::CHOICE) {
-        return is_declaration(p);
+        return is_declaration(class, p);
     }
     if kind == kind::FIELD {
-        return is_field(p);
+        return is_field(class, p);
     }
     if kind == kind::DELETED {
         return is_deleted(p);
     }
-    is_type_payload(kind, p)
+    is_type_payload(class, kind, p)
 }
 
 fn is_outside(k: u16) -> bool
@@ -296,10 +271,11 @@ pub fn payload_at(t: &[u8], at: usize) -> &[u8]
     &t[at + 12..next]
 }
 
-fn is_before(a: &[u8], b: &[u8]) -> bool
+fn is_before(class: &[u8; 256], lower: &[u8; 256], upper: &[u8; 256], a: &[u8], b: &[u8]) -> bool
+    requires { ⌜ Tables (now class) (now lower) (now upper) ⌝ }
     ensures { λ r. ⌜ r ≡ isBefore (now (a .entry)) (now (b .entry)) ⌝ }
 {
-    match identifier::compare(a, b) {
+    match identifier::compare_in(class, lower, upper, a, b) {
         Order::Less => true,
         Order::Equal => false,
         Order::Greater => false,
@@ -316,30 +292,39 @@ fn row_after(row: usize, k: u16) -> usize
     0
 }
 
-fn is_right(last: u16, row: usize, k: u16, p: &[u8]) -> bool
-    requires { ⌜ row ≤ 64 ⌝ }
+fn is_right(class: &[u8; 256], last: u16, row: usize, k: u16, p: &[u8]) -> bool
+    requires { ⌜ (now class ≡ table classOf) × (row ≤ 64) ⌝ }
     ensures { λ r. ⌜ r ≡ isRight last row k (now (p .entry)) ⌝ }
 {
     if !may_follow(last, k) {
         return false;
     }
-    if !is_payload(k, p) {
+    if !is_payload(class, k, p) {
         return false;
     }
     row_after(row, k) <= 64
 }
 
-fn is_later(last: u16, p: &[u8], k: u16, q: &[u8]) -> bool
-    requires { ⌜ (k ≡ 102 → last ≡ 102 → (isSized (now p) ≡ true) × (isSized (now q) ≡ true)) ⌝ }
+fn is_later(
+    class: &[u8; 256],
+    lower: &[u8; 256],
+    upper: &[u8; 256],
+    last: u16,
+    p: &[u8],
+    k: u16,
+    q: &[u8],
+) -> bool
+    requires { ⌜ Tables (now class) (now lower) (now upper) × (k ≡ 102 → last ≡ 102 → (isSized (now p) ≡ true) × (isSized (now q) ≡ true)) ⌝ }
     ensures { λ r. ⌜ r ≡ isLater last (now (p .entry)) k (now (q .entry)) ⌝ }
 {
     if (k == kind::IMPORT) & (last == kind::IMPORT) {
-        return is_before(name_of(p), name_of(q));
+        return is_before(class, lower, upper, name_of(p), name_of(q));
     }
     true
 }
 
-fn is_table(t: &[u8]) -> bool
+fn is_table(class: &[u8; 256], lower: &[u8; 256], upper: &[u8; 256], t: &[u8]) -> bool
+    requires { ⌜ Tables (now class) (now lower) (now upper) ⌝ }
     ensures { λ r. ⌜ r ≡ isSchemaTable (now (t .entry)) ⌝ }
 {
     let mut at: usize = 0;
@@ -352,10 +337,10 @@ fn is_table(t: &[u8]) -> bool
         }
         let k = kind_at(t, at);
         let p = payload_at(t, at);
-        if !is_right(kind, row, k, p) {
+        if !is_right(class, kind, row, k, p) {
             return false;
         }
-        if !is_later(kind, payload_at(t, last), k, p) {
+        if !is_later(class, lower, upper, kind, payload_at(t, last), k, p) {
             return false;
         }
         row = row_after(row, k);
@@ -377,7 +362,10 @@ pub fn check(t: &[u8]) -> Checked
     if 131072 < t.len() {
         return Checked::Refused(1);
     }
-    if is_table(t) {
+    let class = identifier::tables::class_table();
+    let lower = identifier::tables::lower_table();
+    let upper = identifier::tables::upper_table();
+    if is_table(&class, &lower, &upper, t) {
         return Checked::Fine;
     }
     Checked::Refused(9)

@@ -33,7 +33,7 @@ head-length size kind start end = simp (length-append, leBytes-length)
 -- ---- from a table to its tokens
 
 -- the number in k bytes at a place, as these bytes
-bytes-at : (k at : ℕ) (bs : Bytes) → AllBytes bs → at + k ≤ length bs → leBytes k (leAt k bs at) ≡ take k (drop at bs)
+pub bytes-at : (k at : ℕ) (bs : Bytes) → AllBytes bs → at + k ≤ length bs → leBytes k (leAt k bs at) ≡ take k (drop at bs)
 unfolding leAt
 bytes-at k at bs h l = le-again k (drop at bs) (all-drop at bs h) (rw length-drop (omega arith))
 
@@ -44,7 +44,7 @@ head-again bs h l =
     rw (bytes-at 2 0 bs h (omega arith), bytes-at 2 2 bs h (omega arith), bytes-at 4 4 bs h (omega arith), bytes-at 4 8 bs h (omega arith))
     (rw (← take-add 2 2 bs, ← take-add 4 4 bs, ← take-add 8 4 bs))
 
-record-again : (bs : Bytes) → AllBytes bs → Fits bs
+pub record-again : (bs : Bytes) → AllBytes bs → Fits bs
     → recordBytes (tokenOf bs .kind) (tokenOf bs .start) (tokenOf bs .end) (tokenOf bs .payload) ++ drop (sizeOf bs) bs ≡ bs
 unfolding recordBytes tokenOf
 record-again bs h f =
@@ -65,7 +65,7 @@ encoded (suc n) at last row (b ∷ bs) ts h e =
     rw (o .whole, i) (record-again x h (o .good .fits))
 
 -- k bytes hold less than 256 to the k
-le-small : (bs : Bytes) → AllBytes bs → leNumber bs < 256 ^ length bs
+pub le-small : (bs : Bytes) → AllBytes bs → leNumber bs < 256 ^ length bs
 unfolding leNumber
 le-small [] h = omega arith
 le-small (b ∷ bs) h = let i = le-small bs (h .1) in rw pow-succ' (omega (arith, h .0))
@@ -89,13 +89,13 @@ ends-small (suc n) at last row (b ∷ bs) ts h m e =
 -- ---- from tokens to their table
 
 -- what a token's numbers have to be for its record to hold them
-record Narrow (t : Token) : Type 0 where
-  kind : t .kind < 65536
-  start : t .start < 4294967296
-  end : t .end < 4294967296
-  size : 12 + length (t .payload) < 65536
+pub record Narrow (t : Token) : Type 0 where
+  pub kind : t .kind < 65536
+  pub start : t .start < 4294967296
+  pub end : t .end < 4294967296
+  pub size : 12 + length (t .payload) < 65536
 
-abbrev entry : Token → Bytes
+abbrev pub entry : Token → Bytes
 entry t = recordBytes (t .kind) (t .start) (t .end) (t .payload)
 
 module _ (t : Token) (rest : Bytes) (w : Narrow t) where
@@ -125,18 +125,18 @@ module _ (t : Token) (rest : Bytes) (w : Narrow t) where
       let h = headBytes (12 + length (t .payload)) (t .kind) (t .start) (t .end) in
       rw (append-assoc h (t .payload) rest) (drop-at h (t .payload ++ rest) 12 (head-length _ _ _ _))
 
-  first-token : tokenOf (entry t ++ rest) ≡ t
+  pub first-token : tokenOf (entry t ++ rest) ≡ t
   unfolding tokenOf
   first-token = rw (first-size, first-kind, first-start, first-end, after-head, add-sub-cancel-left, take-at (t .payload) rest (length (t .payload)) refl)
 
-  first-rest : drop (sizeOf (entry t ++ rest)) (entry t ++ rest) ≡ rest
+  pub first-rest : drop (sizeOf (entry t ++ rest)) (entry t ++ rest) ≡ rest
   first-rest = rw (first-size, ← drop-drop, after-head) (drop-at (t .payload) rest (length (t .payload)) refl)
 
   first-length : length (entry t ++ rest) ≡ 12 + length (t .payload) + length rest
   unfolding recordBytes
   first-length = simp (length-append, head-length)
 
-  first-whole : isWhole (entry t ++ rest) ≡ true
+  pub first-whole : isWhole (entry t ++ rest) ≡ true
   first-whole =
       let l = first-length in
       let s = first-size in

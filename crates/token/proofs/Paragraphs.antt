@@ -86,18 +86,18 @@ in-step (suc n) (b ∷ bs) m h = rw sub-one
 
 -- paragraphs are found in their bytes
 module _ (p rest : Bytes) (h : length p < 65536) where
-  page-size : u16At (leBytes 2 (length p) ++ p ++ rest) 0 ≡ length p
+  pub page-size : u16At (leBytes 2 (length p) ++ p ++ rest) 0 ≡ length p
   page-size = rw append-assoc (leAt-leBytes 2 (length p) [] (p ++ rest) 0 refl h)
 
-  page-first : paragraphOf (leBytes 2 (length p) ++ p ++ rest) ≡ p
+  pub page-first : paragraphOf (leBytes 2 (length p) ++ p ++ rest) ≡ p
   unfolding paragraphOf
   page-first = rw (page-size, append-assoc, drop-at (leBytes 2 (length p)) (p ++ rest) 2 (leBytes-length 2 (length p)), take-at p rest (length p) refl)
 
-  page-after : afterParagraph (leBytes 2 (length p) ++ p ++ rest) ≡ rest
+  pub page-after : afterParagraph (leBytes 2 (length p) ++ p ++ rest) ≡ rest
   unfolding afterParagraph
   page-after = rw (page-size, append-assoc, drop-at (leBytes 2 (length p)) (p ++ rest) 2 (leBytes-length 2 (length p)), drop-at p rest (length p) refl)
 
-  page-length : length (leBytes 2 (length p) ++ p ++ rest) ≡ 2 + length p + length rest
+  pub page-length : length (leBytes 2 (length p) ++ p ++ rest) ≡ 2 + length p + length rest
   page-length = rw (length-append, length-append, leBytes-length)
 
   page-are : (n : ℕ) → areParagraphs (suc n) (leBytes 2 (length p) ++ p ++ rest) ≡ (isParagraph p && areParagraphs n rest)

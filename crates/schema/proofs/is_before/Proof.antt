@@ -5,15 +5,15 @@ use Rattle.schema.proofs.is_before.Tie as tie
 
 returns : tie.Need-returns
 unfolding isBefore
-returns c = rw (← c .before .before .compare .ensures, c .enum-told .given .1)
+returns c = rw (← c .before .before .compare-in .ensures, c .enum-told .given .1)
 
 returns-2 : tie.Need-returns-2
 unfolding isBefore
-returns-2 c = rw (← c .before .before .compare .ensures, c .enum-told2 .given .1)
+returns-2 c = rw (← c .before .before .compare-in .ensures, c .enum-told2 .given .1)
 
 returns-3 : tie.Need-returns-3
 unfolding isBefore
-returns-3 c = rw (← c .before .before .compare .ensures, c .enum-told3 .given .1)
+returns-3 c = rw (← c .before .before .compare-in .ensures, c .enum-told3 .given .1)
 
 pub is-before-spec : {M : Type 1} → statement M
 is-before-spec =

@@ -1,5 +1,6 @@
-use denote.Ref.{now}
-use Rattle.schema.proofs.Scans.{counted-none, counted-not, counted-are, counted-all}
+use mathlib.Core.Path.{sym, _∙_}
+use borrow.Author.Tests.{not-false}
+use Rattle.schema.proofs.Scans.{counted-none, counted-not, counted-all}
 use Rattle.wire.proofs.Choice.{choice}
 use Rattle.schema.specs.Payload.{isCounted}
 use borrow.Author.Needs.{needs}
@@ -17,7 +18,7 @@ returns-3 : tie.Need-returns-3
 returns-3 c = counted-not _ (c .before .before .before .before .before .if1 .left) (c .before .before .if2 .left) (c .before .is-comment .ensures) (c .if3 .taken)
 
 paragraph-count-requires : tie.Need-paragraph-count-requires
-paragraph-count-requires c κs = counted-are (now (c .before .before .before .before .before .before .before .args .p)) (c .before .before .before .before .before .if1 .left) (c .before .before .if2 .left) (c .before .is-comment .ensures) (c .if3 .left)
+paragraph-count-requires c κs = sym (c .before .is-comment .ensures) ∙ not-false _ (c .if3 .left)
 
 returns-4 : tie.Need-returns-4
 returns-4 c =
@@ -27,4 +28,4 @@ returns-4 c =
 pub is-counted-spec : {M : Type 1} → statement M
 is-counted-spec =
     tie.close
-    (tie.spec returns (λ c κs. search needs) (λ c. search needs) (λ c. search needs) (λ c. search needs) (λ c. search needs) returns-2 (λ c κs. search needs) returns-3 paragraph-count-requires returns-4)
+    (tie.spec returns (λ c κs. search needs) (λ c. search needs) (λ c. search needs) (λ c. search needs) returns-2 (λ c κs. search needs) returns-3 paragraph-count-requires returns-4)

@@ -1,5 +1,5 @@
 use mathlib.Core.Path.{_≡_}
-use mathlib.Core.Bool.{true, _&&_}
+use mathlib.Core.Bool.{true}
 use denote.Ref.{now}
 use lib.Dec.{eqb}
 use borrow.Author.Tests.{eqb-true}
@@ -14,7 +14,7 @@ use Rattle.schema.proofs.is_later.Tie as tie
 sized-at : (c : tie.Then1) → (isSized (now (c .before .before .before .args .p)) ≡ true) × (isSized (now (c .before .before .before .args .q)) ≡ true)
 sized-at c =
     let b = both (eqb (c .before .before .before .args .k) 102) _ (c .if1 .taken) in
-    c .before .before .before .pre (eqb-true _ _ (b .0)) (eqb-true _ _ (b .1))
+    c .before .before .before .pre .1 (eqb-true _ _ (b .0)) (eqb-true _ _ (b .1))
 
 name-of-requires : tie.Need-name-of-requires
 name-of-requires c κs = sized-at c .0

@@ -13,10 +13,10 @@ use Rattle.schema.proofs.is_table.Statement.{statement}
 use Rattle.schema.proofs.is_table.Tie as tie
 
 abbrev Inv-loop : tie.InvT-loop
-Inv-loop t at₀ last₀ kind₀ row₀ at last kind row = Judging t at last kind row (isSchemaTable t)
+Inv-loop class lower upper t at₀ last₀ kind₀ row₀ at last kind row = Judging t at last kind row (isSchemaTable t)
 
 abbrev μ-loop : tie.MeasureT-loop
-μ-loop t at₀ last₀ kind₀ row₀ at last kind row = length t - at
+μ-loop class lower upper t at₀ last₀ kind₀ row₀ at last kind row = length t - at
 
 whole-here : (c : tie.Else1 Inv-loop μ-loop) → WholeAt (now (c .before .before .before .before .before .before .args .t)) (c .before .before .before .before .loop .at)
 whole-here c = judged-whole (c .before .before .before .before .loop .inv) (c .before .before .before .loop-test .taken) (sym (c .before .is-whole .ensures) ∙ not-false _ (c .if1 .left))
@@ -38,7 +38,7 @@ payload-at-requires : tie.Need-payload-at-requires Inv-loop μ-loop
 payload-at-requires c κs = whole-here (c .before)
 
 is-right-requires : tie.Need-is-right-requires Inv-loop μ-loop
-is-right-requires c κs = c .before .before .before .before .before .before .loop .inv .shallow
+is-right-requires c κs = (c .before .before .before .before .before .before .before .before .pre .class, c .before .before .before .before .before .before .loop .inv .shallow)
 
 returns-2 : tie.Need-returns-2 Inv-loop μ-loop
 returns-2 c =
@@ -49,8 +49,10 @@ payload-at-requires-2 : tie.Need-payload-at-requires-2 Inv-loop μ-loop
 payload-at-requires-2 c κs = c .before .before .before .before .before .before .before .before .loop .inv .whole (whole-here (c .before .before .before .before))
 
 is-later-requires : tie.Need-is-later-requires Inv-loop μ-loop
-is-later-requires c κs =
-    λ i l. (rw (c .payload-at2 .ensures) (c .before .before .before .before .before .before .before .before .before .loop .inv .sized l), rw (c .before .before .before .payload-at .ensures) (import-sized _ _ _ _ (right-here (c .before)) (sym (c .before .before .before .before .kind-at .ensures) ∙ i)))
+is-later-requires c κs = (
+  c .before .before .before .before .before .before .before .before .before .before .before .pre,
+  λ i l. (rw (c .payload-at2 .ensures) (c .before .before .before .before .before .before .before .before .before .loop .inv .sized l), rw (c .before .before .before .payload-at .ensures) (import-sized _ _ _ _ (right-here (c .before)) (sym (c .before .before .before .before .kind-at .ensures) ∙ i))),
+)
 
 returns-3 : tie.Need-returns-3 Inv-loop μ-loop
 returns-3 c =

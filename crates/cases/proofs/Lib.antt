@@ -1,2 +1,0 @@
--- The one theorem of the marked cases.
-pub mod Holds

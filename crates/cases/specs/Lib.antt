@@ -1,3 +1,0 @@
--- The marked cases of document 01.
-pub mod Printed
-pub mod Table

@@ -1,8 +1,0 @@
--- The theorems and laws of the canonical text.
-pub mod Laws
-pub mod Wrap
-pub mod Places
-pub mod Comment
-pub mod Cases
-pub mod Parts
-pub mod Types

@@ -1,4 +1,0 @@
--- The definition of the canonical text.
-pub mod Wrap
-pub mod Text
-pub mod Types
