@@ -1,7 +1,6 @@
 -- What a cursor shows of the tokens ahead.
 use Prim.Native.Nat.{ℕ, _≤_, _<_}
-use mathlib.Core.Path.{_≡_, refl}
-use mathlib.Core.Bool.{Bool, true, false, _||_, true≢false}
+use mathlib.Core.Path.{_≡_}
 use mathlib.Core.List.{List}
 use native.Mathlib.Omega.{arith}
 use lib.ListN.{length}
@@ -12,10 +11,6 @@ use Rattle.parser.specs.Steps.{ahead, Stands, Stepped}
 use Rattle.parser.specs.declared.Cursor.{Cursor}
 use Rattle.parser.proofs.Laws.{inside}
 use Rattle.judge.specs.Judges.{Room}
-
-pub or-none : (a b : Bool) → (a || b) ≡ false → (a ≡ false) × (b ≡ false)
-or-none true b e = absurd (true≢false e)
-or-none false b e = (refl, e)
 
 -- a token is ahead where its kind isn't 0
 module _ {t : Bytes} {at k : ℕ} (w : Wf t at) (q : k ≡ kindAt (tokensFrom t at)) (n : k ≡ 0 → ⊥) where

@@ -1,7 +1,7 @@
 -- The schema's comment, and the whole schema.
 use Prim.Native.Nat.{ℕ, _+_, _≤_, _<_}
 use mathlib.Core.Path.{_≡_, refl, sym}
-use mathlib.Core.Bool.{Bool, true, false, _||_}
+use mathlib.Core.Bool.{Bool, true, false}
 use mathlib.Core.List.{List, [], _∷_, _++_}
 use native.Mathlib.Omega.{arith}
 use lib.Dec.{eqb, ltb}
@@ -10,7 +10,7 @@ use borrow.Author.Tests.{eq-eqb, ne-eqb, lt-ltb, le-ltb}
 use Rattle.wire.specs.Bytes.{Bytes}
 use Rattle.wire.specs.Put.{Wrote}
 use Rattle.wire.proofs.Laws.{parts}
-use Rattle.token.specs.Kind.{kComment, kStruct, kChoice, isKeyword}
+use Rattle.token.specs.Kind.{kComment, isKeyword}
 use Rattle.token.specs.Token.{Token, endOf}
 use Rattle.token.specs.Places.{tokAt, tokensFrom, Wf}
 use Rattle.token.proofs.Walk.{tokens-step}
@@ -43,20 +43,20 @@ module _ {t : Bytes} {c : Cursor} {k : ℕ} (q : k ≡ kindAt (ahead t c)) where
 
   -- a comment at c, and d after it
   module _ {d : Cursor} {m : ℕ} (e : k ≡ kComment) (s : Stepped t c d) (p : m ≡ kindAt (ahead t d)) where
-    pub keyword-here : (eqb m kStruct || eqb m kChoice) ≡ true → Stands t (d .at)
+    pub keyword-here : isKeyword m ≡ true → Stands t (d .at)
     keyword-here f = stands (s .wf) p (λ z. omega (arith, some-kind isKeyword m refl f))
 
     comment : eqb (tokAt t (c .at) .kind) kComment ≡ true
     comment = rw (q, s .first) at (eq-eqb k kComment e)
 
-    pub opening-free : (eqb m kStruct || eqb m kChoice) ≡ false → Before t (parseOpening (ahead t c) .rest) d
+    pub opening-free : isKeyword m ≡ false → Before t (parseOpening (ahead t c) .rest) d
     opening-free f = record { tokens = rw (s .first) (sym (opening-rest (tokAt t (c .at)) (ahead t d) true (go (ahead t d) (rw p at f)))); wf = s .wf }
       where
         go : (us : List Token) → isKeyword (kindAt us) ≡ false → isOpening (tokAt t (c .at) ∷ us) ≡ true
         go [] f = comment
         go (v ∷ vs) f = rw (comment, f)
 
-    module _ (f : (eqb m kStruct || eqb m kChoice) ≡ true) {start stop : ℕ} (x : start ≡ tokAt t (d .at) .start) (y : stop ≡ tokAt t (c .at) .end) where
+    module _ (f : isKeyword m ≡ true) {start stop : ℕ} (x : start ≡ tokAt t (d .at) .start) (y : stop ≡ tokAt t (c .at) .end) where
       attached : (b : Bool) → ltb (stop + 1) start ≡ b → isOpening (tokAt t (c .at) ∷ ahead t d) ≡ b
       attached b h =
           let i = tokens-step t (d .at) (keyword-here f .1) in
