@@ -1,5 +1,5 @@
 -- The fields of a declaration, one record after the other.
-use Prim.Native.Nat.{ℕ, _+_, _*_, _-_, _≤_, _<_}
+use Prim.Native.Nat.{ℕ, _+_, _*_, _-_, _/_, _≤_, _<_}
 use mathlib.Core.Path.{_≡_, refl, sym, ap, _∙_}
 use mathlib.Core.Bool.{Bool, true, false, not, _&&_, _||_}
 use mathlib.Core.List.{List, [], _∷_, _++_}
@@ -19,10 +19,10 @@ use Rattle.schema.specs.Table.{isType, isInside}
 use Rattle.schema.specs.Decode.{fieldOf, fieldsOf, deletedOf, declarationsOf}
 use Rattle.schema.specs.Walk.{recordsFrom, kindAt, nextAt, payloadAt, tokenAt, WholeAt, Stands}
 use Rattle.schema.proofs.Steps.{either, at-field, at-deleted, at-declaration}
-use Rattle.schema.proofs.Walk.{record-at, records-end}
+use Rattle.schema.proofs.Walk.{record-at, records-end, type-nested}
 use Rattle.text.specs.Text.{isEmpty, blank, hasComment, fieldText, fieldsText}
 use Rattle.writer.specs.Parts.{typeAt, depthAt, fieldFrom, isCommented}
-use Rattle.writer.specs.Steps.{Fielded, Fields}
+use Rattle.writer.specs.Steps.{Nested, Fielded, Fields}
 use Rattle.writer.proofs.Types.{typed}
 
 -- a field has a comment where there are bytes after the count of its paragraphs
@@ -55,6 +55,7 @@ pub record FieldAt (t : Bytes) (at : ℕ) : Type 0 where
   pub whole : WholeAt t at
   pub right : isField (payloadAt t at) ≡ true
   pub type : Stands t (nextAt t at) isType
+  pub few : depthAt t (nextAt t at) ≤ 64
   pub fields : fieldsOf (recordsFrom t at) ≡ fieldOf (tokenAt t at) (typeAt t (nextAt t at)) ∷ fieldsOf (recordsFrom t (nextAt t at))
   pub deleted : deletedOf (recordsFrom t at) ≡ deletedOf (recordsFrom t (nextAt t at))
   pub later : declarationsOf (recordsFrom t at) ≡ declarationsOf (recordsFrom t (nextAt t at))
@@ -67,10 +68,16 @@ field-at {t} {at} s h e =
       whole = r .whole;
       right = q .rule;
       type = r .next isType (q .after);
+      few = type-nested s h e;
       fields = ap fieldsOf (r .records) ∙ q .fields;
       deleted = ap deletedOf (r .records) ∙ q .deleted;
       later = ap declarationsOf (r .records) ∙ q .declarations;
     }
+
+pub nested-at : {t : Bytes} {at next inner : ℕ} → FieldAt t at → next ≡ nextAt t at → inner ≡ next + 12 * depthAt t next → Nested t next ((inner - next) / 12)
+nested-at {t} {next = next} f n i =
+    let few : depthAt t next ≤ 64 = rw n (f .few) in
+    record { stands = rw n (f .type); depth = omega arith; few = omega arith }
 
 -- after the last field
 no-field : {t : Bytes} {at : ℕ} → Stands t at isInside → at < length t → eqb (kindAt t at) sField ≡ false → fieldsOf (recordsFrom t at) ≡ []

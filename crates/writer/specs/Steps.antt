@@ -9,11 +9,17 @@ use lib.ListN.{length}
 use Rattle.wire.specs.Bytes.{Bytes, bytes}
 use Rattle.wire.specs.Put.{Wrote}
 use Rattle.schema.specs.Kind.{sField}
-use Rattle.schema.specs.Table.{recordsOf, isInside, isImporting, isOutside}
+use Rattle.schema.specs.Table.{recordsOf, isType, isInside, isImporting, isOutside}
 use Rattle.schema.specs.Decode.{importsOf, fieldsOf, deletedOf, declarationsOf, schemaOf}
 use Rattle.schema.specs.Walk.{recordsFrom, kindAt, Stands}
 use Rattle.text.specs.Text.{isEmpty, openingText, importsText, fieldsText, deletedText, declarationText}
-use Rattle.writer.specs.Parts.{declarationAt}
+use Rattle.writer.specs.Parts.{depthAt, declarationAt}
+
+-- a type begins here, with `left` arrays around it, at most 64
+pub record Nested (t : Bytes) (at left : ℕ) : Type 0 where
+  pub stands : Stands t at isType
+  pub depth : left ≡ depthAt t at
+  pub few : left ≤ 64
 
 -- a declaration begins here, or the table ends
 pub record Outside (t : Bytes) (at : ℕ) : Type 0 where

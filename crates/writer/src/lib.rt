@@ -13,7 +13,7 @@ ghost use Rattle.schema.specs.Walk.{recordsFrom, Stands};
 ghost use Rattle.text.specs.Text.{typeText, isUnit, fieldType, declarationsText, textOf};
 ghost use Rattle.writer.specs.Parts.{typeAt, depthAt, isBase, baseText, fieldFrom, isCommented};
 ghost use Rattle.writer.specs.Written.{Writes};
-ghost use Rattle.writer.specs.Steps.{Outside, Opened, Fielded, Fields, Ended, Declared, Imported, Commented};
+ghost use Rattle.writer.specs.Steps.{Nested, Outside, Opened, Fielded, Fields, Ended, Declared, Imported, Commented};
 use schema::Checked;
 use schema::kind;
 
@@ -42,14 +42,14 @@ fn put_base(out: &mut [u8], at: usize, kind: u16, p: &[u8]) -> usize
 
 // Type and TypeVariant write each other; `left` is the number of arrays still inside.
 fn put_type(out: &mut [u8], at: usize, t: &[u8], from: usize, left: usize) -> usize
-    requires { ⌜ Stands (now t) from isType × (left ≡ depthAt (now t) from) ⌝ }
+    requires { ⌜ Nested (now t) from left ⌝ }
     ensures { λ r. ⌜ Wrote (now (out .entry)) at (typeText (typeAt (now (t .entry)) from)) (now (out .exit)) r ⌝ }
 {
     put_variant(out, at, t, from, left)
 }
 
 fn put_variant(out: &mut [u8], at: usize, t: &[u8], from: usize, left: usize) -> usize
-    requires { ⌜ Stands (now t) from isType × (left ≡ depthAt (now t) from) ⌝ }
+    requires { ⌜ Nested (now t) from left ⌝ }
     ensures { λ r. ⌜ Wrote (now (out .entry)) at (typeText (typeAt (now (t .entry)) from)) (now (out .exit)) r ⌝ }
 {
     let kind = schema::kind_at(t, from);
@@ -73,7 +73,7 @@ fn is_unit(t: &[u8], from: usize) -> bool
 
 // A field's own Unit type is omitted.
 fn put_field_type(out: &mut [u8], at: usize, t: &[u8], from: usize, left: usize) -> usize
-    requires { ⌜ Stands (now t) from isType × (left ≡ depthAt (now t) from) ⌝ }
+    requires { ⌜ Nested (now t) from left ⌝ }
     ensures { λ r. ⌜ Wrote (now (out .entry)) at (fieldType (typeAt (now (t .entry)) from)) (now (out .exit)) r ⌝ }
 {
     if is_unit(t, from) {
@@ -85,7 +85,7 @@ fn put_field_type(out: &mut [u8], at: usize, t: &[u8], from: usize, left: usize)
 
 // A field from its payload and its type, which begins at `next`.
 fn put_field(out: &mut [u8], at: usize, p: &[u8], t: &[u8], next: usize, left: usize) -> usize
-    requires { ⌜ (isField (now p) ≡ true) × Stands (now t) next isType × (left ≡ depthAt (now t) next) ⌝ }
+    requires { ⌜ (isField (now p) ≡ true) × Nested (now t) next left ⌝ }
     ensures { λ r. ⌜ Wrote (now (out .entry)) at (fieldFrom (now (p .entry)) (typeAt (now (t .entry)) next)) (now (out .exit)) r ⌝ }
 {
     let a = text::put_field_name(out, at, p[0], &p[9..]);

@@ -55,27 +55,27 @@ pub +put-type+put-variant-spec : {M : Type 1} → statement M
     (kind-at-reads.Asked, kind-at-reads.Learnt, put-byte-reads.Asked, put-byte-reads.Learnt, put-type-below t, put-type.Post, payload-at-reads.Asked, payload-at-reads.Learnt, put-base-reads.Asked, put-base-reads.Learnt)
     (put-variant-at t)
     put-variant.Post
-    (λ c κs. omega (arith, type-record (c .before .before .pre .1 .0) .whole))
+    (λ c κs. omega (arith, type-record (c .before .before .pre .1 .stands) .whole))
     (λ c κs. search needs)
-    (λ c. omega (arith, type-record (c .before .before .before .before .before .before .before .before .before .pre .1 .0) .whole))
-    (λ c. let d = c .before .before .before .before .before in omega (arith, one-less (d .before .before .before .before .pre .1 .0) (sym (d .before .kind-at .ensures) ∙ d .if1 .taken) (d .before .before .before .before .pre .1 .1)))
+    (λ c. omega (arith, type-record (c .before .before .before .before .before .before .before .before .before .pre .1 .stands) .whole))
+    (λ c. let d = c .before .before .before .before .before in omega (arith, one-less (d .before .before .before .before .pre .1 .stands) (sym (d .before .kind-at .ensures) ∙ d .if1 .taken) (d .before .before .before .before .pre .1 .depth)))
     (λ c κs.
     let d = c .before .before .before .before .before in
     let e = sym (d .before .kind-at .ensures) ∙ d .if1 .taken in
-    let f = one-less (d .before .before .before .before .pre .1 .0) e (d .before .before .before .before .pre .1 .1) in
-    (omega (arith, d .before .before .before .before .pre .0, f), (array-at (d .before .before .before .before .pre .1 .0) e .inner, omega (arith, f))))
+    let f = one-less (d .before .before .before .before .pre .1 .stands) e (d .before .before .before .before .pre .1 .depth) in
+    (omega (arith, d .before .before .before .before .pre .0, f), record { stands = array-at (d .before .before .before .before .pre .1 .stands) e .inner; depth = omega (arith, f); few = omega (arith, f, d .before .before .before .before .pre .1 .few) }))
     (λ c κs. search needs)
     (λ c. wrote-length (then (then (c .before .before .before .before .before .before .before .before .before .before .put-byte .ensures) (c .before .before .before .before .before .before .put-type .ensures)) (c .before .before .put-byte2 .ensures)))
     (λ c.
     let d = c .before .before .before .before .before .before .before .before .before .before .before .before in
-    rw (ap typeText (array-at (d .before .before .before .before .pre .1 .0) (sym (d .before .kind-at .ensures) ∙ d .if1 .taken) .type))
+    rw (ap typeText (array-at (d .before .before .before .before .pre .1 .stands) (sym (d .before .kind-at .ensures) ∙ d .if1 .taken) .type))
     (then (then (c .before .before .before .before .before .before .before .before .before .before .put-byte .ensures) (c .before .before .before .before .before .before .put-type .ensures)) (c .before .before .put-byte2 .ensures)))
-    (λ c κs. type-record (c .before .before .before .before .before .pre .1 .0) .whole)
+    (λ c κs. type-record (c .before .before .before .before .before .pre .1 .stands) .whole)
     (λ c κs.
     let d = c .before .before in
-    rw (d .before .kind-at .ensures, c .payload-at .ensures) (base-at (d .before .before .before .before .pre .1 .0) (λ e. d .if1 .left (d .before .kind-at .ensures ∙ e)) .right))
+    rw (d .before .kind-at .ensures, c .payload-at .ensures) (base-at (d .before .before .before .before .pre .1 .stands) (λ e. d .if1 .left (d .before .kind-at .ensures ∙ e)) .right))
     (λ c. wrote-length (c .before .before .put-base .ensures))
     (λ c.
     let d = c .before .before .before .before .before in
-    rw (base-at (d .before .before .before .before .pre .1 .0) (λ e. d .if1 .left (d .before .kind-at .ensures ∙ e)) .text)
+    rw (base-at (d .before .before .before .before .pre .1 .stands) (λ e. d .if1 .left (d .before .kind-at .ensures ∙ e)) .text)
     (rw (d .before .kind-at .ensures, c .before .before .before .payload-at .ensures) at (c .before .before .put-base .ensures)))

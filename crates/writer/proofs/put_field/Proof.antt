@@ -20,7 +20,7 @@ put-field-name-requires : tie.Need-put-field-name-requires
 put-field-name-requires c κs = rw (tail-part _ 9) (field-parts (c .before .before .before .before .before .before .pre .0) .named)
 
 put-field-type-requires : tie.Need-put-field-type-requires
-put-field-type-requires c κs = (c .before .before .before .before .before .before .before .before .before .before .pre .1, c .before .before .before .before .before .before .before .before .before .before .pre .2)
+put-field-type-requires c κs = c .before .before .before .before .before .before .before .before .before .before .pre .1
 
 u64-at-requires : tie.Need-u64-at-requires
 u64-at-requires c κs = omega (arith, field-parts (c .before .before .before .before .before .before .before .before .before .before .before .before .before .before .pre .0))

@@ -8,7 +8,7 @@ use Rattle.writer.proofs.put_field_type.Statement.{statement}
 use Rattle.writer.proofs.put_field_type.Tie as tie
 
 is-unit-requires : tie.Need-is-unit-requires
-is-unit-requires c κs = c .before .before .pre .0
+is-unit-requires c κs = c .before .before .pre .stands
 
 returns : tie.Need-returns
 unfolding fieldType

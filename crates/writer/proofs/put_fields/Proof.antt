@@ -10,7 +10,7 @@ use Rattle.wire.proofs.Laws.{wrote-length}
 use Rattle.schema.specs.Walk.{nextAt}
 use Rattle.schema.proofs.Walk.{record-at}
 use Rattle.writer.proofs.Types.{Typed, typed}
-use Rattle.writer.proofs.Fields.{Fielding, fielding-begin, fielding-more, fielding-end, fielding-other, FieldAt, field-at}
+use Rattle.writer.proofs.Fields.{Fielding, fielding-begin, fielding-more, fielding-end, fielding-other, FieldAt, field-at, nested-at}
 use Rattle.writer.proofs.put_fields.Statement.{statement}
 use Rattle.writer.proofs.put_fields.Tie as tie
 
@@ -58,7 +58,7 @@ put-field-requires : tie.Need-put-field-requires Inv-loop μ-loop
 put-field-requires c κs =
     let d = c .before .before .before .before .before .before .before .before in
     let f = here (d .before .before) in
-    (rw (c .before .before .before .before .before .before .before .payload-at .ensures) (f .right), rw (d .before .next-at .ensures) (f .type), omega (arith, d .innermost .ensures))
+    (rw (c .before .before .before .before .before .before .before .payload-at .ensures) (f .right), nested-at f (d .before .next-at .ensures) (d .innermost .ensures))
 
 loop-less : tie.Need-loop-less Inv-loop μ-loop
 loop-less c =
