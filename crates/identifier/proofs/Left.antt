@@ -19,14 +19,14 @@ use Rattle.identifier.specs.declared.Next.{Next}
 use Rattle.identifier.proofs.Words.{words-break, words-begin, joined-begin, later-begin, in-break, in-capital, in-plain}
 
 -- after a break a word has ended
-left-break : (f g : ℕ → Bytes) (s b : ℕ) (bs : Bytes) → isBreak b ≡ true → leftOf f g s (b ∷ bs) ≡ leftOf f g (pick (eqb s 1) 2 s) bs
+pub left-break : (f g : ℕ → Bytes) (s b : ℕ) (bs : Bytes) → isBreak b ≡ true → leftOf f g s (b ∷ bs) ≡ leftOf f g (pick (eqb s 1) 2 s) bs
 unfolding pick
 left-break f g zero b bs e = rw (words-break b bs e)
 left-break f g (suc zero) b bs e = in-break b bs g e
 left-break f g (suc (suc zero)) b bs e = rw (words-break b bs e)
 left-break f g (suc (suc (suc s))) b bs e = rw (words-break b bs e, ne-eqb (suc (suc (suc s))) 1 (λ q. omega arith))
 
-left-none : (f g : ℕ → Bytes) (s : ℕ) → leftOf f g s [] ≡ []
+pub left-none : (f g : ℕ → Bytes) (s : ℕ) → leftOf f g s [] ≡ []
 left-none f g zero = refl
 left-none f g (suc zero) = refl
 left-none f g (suc (suc zero)) = refl

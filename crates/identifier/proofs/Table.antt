@@ -4,7 +4,7 @@ use mathlib.Core.Bool.{Bool, true, false, _||_, _&&_, not}
 use mathlib.Core.List.{List, [], _∷_}
 use Prim.Native.Nat.{ℕ, zero, suc, _+_, _<_}
 use native.Mathlib.Nat.{add-zero, zero-add, add-suc, suc-add, le-of-suc-le-suc, not-suc-le-zero}
-use lib.Dec.{ltb, eqb}
+use lib.Dec.{ltb, leb, eqb}
 use lib.ListN.{getD}
 use Rattle.wire.specs.Pick.{pick}
 use Rattle.identifier.specs.Byte.{isUpper, isLetter, isDigit, isBreak, isPrintable, classOf}
@@ -32,26 +32,22 @@ unfolding classOf pick
 class-printable = agree isPrintable (λ b. ltb 0 (classOf b)) refl
 
 -- a byte of a path
-pub class-path : (b : ℕ) → b < 256 → (isPrintable b && not (eqb b 39)) ≡ ltb 1 (classOf b)
+pub class-path : (b : ℕ) → b < 256 → (isPrintable b && not (eqb b 39)) ≡ leb 2 (classOf b)
 unfolding classOf pick
-class-path = agree (λ b. isPrintable b && not (eqb b 39)) (λ b. ltb 1 (classOf b)) refl
+class-path = agree (λ b. isPrintable b && not (eqb b 39)) (λ b. leb 2 (classOf b)) refl
 
 pub class-space : (b : ℕ) → b < 256 → eqb b 32 ≡ eqb (classOf b) 2
 unfolding classOf pick
 class-space = agree (λ b. eqb b 32) (λ b. eqb (classOf b) 2) refl
 
 -- a byte of an identifier, and its first
-pub class-name : (b : ℕ) → b < 256 → (isLetter b || (isDigit b || isBreak b)) ≡ ltb 3 (classOf b)
+pub class-name : (b : ℕ) → b < 256 → (isLetter b || (isDigit b || isBreak b)) ≡ leb 4 (classOf b)
 unfolding classOf pick
-class-name = agree (λ b. isLetter b || (isDigit b || isBreak b)) (λ b. ltb 3 (classOf b)) refl
+class-name = agree (λ b. isLetter b || (isDigit b || isBreak b)) (λ b. leb 4 (classOf b)) refl
 
-pub class-start : (b : ℕ) → b < 256 → (isLetter b || eqb b 95) ≡ ltb 5 (classOf b)
+pub class-start : (b : ℕ) → b < 256 → (isLetter b || eqb b 95) ≡ leb 6 (classOf b)
 unfolding classOf pick
-class-start = agree (λ b. isLetter b || eqb b 95) (λ b. ltb 5 (classOf b)) refl
-
-pub class-letter : (b : ℕ) → b < 256 → isLetter b ≡ ltb 6 (classOf b)
-unfolding classOf pick
-class-letter = agree isLetter (λ b. ltb 6 (classOf b)) refl
+class-start = agree (λ b. isLetter b || eqb b 95) (λ b. leb 6 (classOf b)) refl
 
 pub class-upper : (b : ℕ) → b < 256 → isUpper b ≡ eqb (classOf b) 8
 unfolding classOf pick

@@ -4,10 +4,11 @@ use mathlib.Core.Path.{_≡_}
 use mathlib.Core.Bool.{Bool, true, false}
 use mathlib.Core.List.{List, [], _∷_, _++_, map}
 use Prim.Native.Nat.{ℕ, zero, suc, _+_}
+use lib.Dec.{eqb}
 use lib.ListN.{drop}
 use Rattle.wire.specs.Bytes.{Bytes}
 use Rattle.wire.specs.Pick.{pick}
-use Rattle.identifier.specs.Byte.{lowerOf}
+use Rattle.identifier.specs.Byte.{isBreak, isUpper, lowerOf}
 use Rattle.identifier.specs.Words.{pieces, unempty, wordsOf}
 use Rattle.identifier.specs.Forms.{low, up, barLow, laterWords, joined}
 use Rattle.identifier.specs.declared.Next.{Next}
@@ -30,6 +31,15 @@ leftOf f g zero bs = joined f g (wordsOf bs)
 leftOf f g (suc zero) bs = inWord g bs
 leftOf f g (suc (suc zero)) bs = laterWords g (wordsOf bs)
 leftOf f g (suc (suc (suc s))) bs = joined low g (wordsOf bs)
+
+-- What a byte of the name adds to the form, and the state after it. Here a `_` and the byte after it are added together.
+unfoldable pub added : Bool → Bool → ℕ → ℕ → Bytes
+added up bar state b =
+    pick (isBreak b) []
+    (pick (eqb state 1) (pick (isUpper b) (laterBy bar b) (lowerOf b ∷ [])) (pick (eqb state 0) (firstBy up b) (laterBy bar b)))
+
+unfoldable pub stateAfter : ℕ → ℕ → ℕ
+stateAfter state b = pick (isBreak b) (pick (eqb state 1) 2 state) 1
 
 -- 0 where nothing is left, else one more than the first byte; and what follows that byte
 abbrev pub headOf : Bytes → ℕ

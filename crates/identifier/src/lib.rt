@@ -17,7 +17,7 @@ ghost use Rattle.wire.specs.Pick.{pick};
 ghost use Rattle.wire.specs.Put.{Wrote};
 ghost use Rattle.identifier.specs.Byte.{isBreak, isUpper, classOf, lowerOf, upperOf};
 ghost use Rattle.identifier.specs.Table.{table, Tables};
-ghost use Rattle.identifier.specs.Left.{firstBy, laterBy, gives, codeOf, Follows};
+ghost use Rattle.identifier.specs.Left.{firstBy, laterBy, added, stateAfter, gives, codeOf, Follows};
 ghost use Rattle.identifier.specs.Words.{wordsOf};
 ghost use Rattle.identifier.specs.Forms.{joined, snakeOf, camelOf, pascalOf, IsForm};
 ghost use Rattle.identifier.specs.Order.{nameOrder, sameName};
@@ -199,27 +199,112 @@ pub fn pascal(name: &[u8]) -> Form
     build(name, true, false)
 }
 
-fn put_form(out: &mut [u8], at: usize, form: Form) -> usize
-    requires { ⌜ form .len ≤ length (form .bytes) ⌝ }
-    ensures { λ r. ⌜ Wrote (now (out .entry)) at (take (form .len) (form .bytes)) (now (out .exit)) r ⌝ }
+fn put_first(
+    out: &mut [u8],
+    at: usize,
+    lower: &[u8; 256],
+    upper: &[u8; 256],
+    b: u8,
+    up: bool,
+) -> usize
+    requires { ⌜ (now lower ≡ table lowerOf) × (now upper ≡ table upperOf) ⌝ }
+    ensures { λ r. ⌜ Wrote (now (out .entry)) at (firstBy up b) (now (out .exit)) r ⌝ }
 {
-    let bytes = form.bytes;
-    let len = form.len;
-    wire::put_slice(out, at, &bytes[..len])
+    if up {
+        return wire::put_byte(out, at, upper_in(upper, b));
+    }
+    wire::put_byte(out, at, lower_in(lower, b))
+}
+
+fn put_later(
+    out: &mut [u8],
+    at: usize,
+    lower: &[u8; 256],
+    upper: &[u8; 256],
+    b: u8,
+    bar: bool,
+) -> usize
+    requires { ⌜ (now lower ≡ table lowerOf) × (now upper ≡ table upperOf) ⌝ }
+    ensures { λ r. ⌜ Wrote (now (out .entry)) at (laterBy bar b) (now (out .exit)) r ⌝ }
+{
+    if bar {
+        let a = wire::put_byte(out, at, b'_');
+        return wire::put_byte(out, a, lower_in(lower, b));
+    }
+    wire::put_byte(out, at, upper_in(upper, b))
+}
+
+// What a byte of a name adds to a form.
+fn put_next(
+    out: &mut [u8],
+    at: usize,
+    class: &[u8; 256],
+    lower: &[u8; 256],
+    upper: &[u8; 256],
+    b: u8,
+    up: bool,
+    bar: bool,
+    state: u8,
+) -> usize
+    requires { ⌜ Tables (now class) (now lower) (now upper) ⌝ }
+    ensures { λ r. ⌜ Wrote (now (out .entry)) at (added up bar state b) (now (out .exit)) r ⌝ }
+{
+    if is_break(class, b) {
+        return at;
+    }
+    if state == 1 {
+        if is_upper(class, b) {
+            return put_later(out, at, lower, upper, b, bar);
+        }
+        return wire::put_byte(out, at, lower_in(lower, b));
+    }
+    if state == 0 {
+        return put_first(out, at, lower, upper, b, up);
+    }
+    put_later(out, at, lower, upper, b, bar)
+}
+
+fn state_after(class: &[u8; 256], b: u8, state: u8) -> u8
+    requires { ⌜ now class ≡ table classOf ⌝ }
+    ensures { λ r. ⌜ r ≡ stateAfter state b ⌝ }
+{
+    if is_break(class, b) {
+        return after_break(state);
+    }
+    1
+}
+
+// A form is put byte by byte: an array of 256 bytes in between would cost more than the form.
+fn put_form(out: &mut [u8], at: usize, name: &[u8], up: bool, bar: bool) -> usize
+    ensures { λ r. ⌜ Wrote (now (out .entry)) at (joined (firstBy up) (laterBy bar) (wordsOf (now (name .entry)))) (now (out .exit)) r ⌝ }
+{
+    let class = class_table();
+    let lower = lower_table();
+    let upper = upper_table();
+    let mut a = at;
+    let mut i: usize = 0;
+    let mut state: u8 = 0;
+    while i < name.len() {
+        let b = name[i];
+        a = put_next(out, a, &class, &lower, &upper, b, up, bar, state);
+        state = state_after(&class, b, state);
+        i += 1;
+    }
+    a
 }
 
 pub fn put_snake(out: &mut [u8], at: usize, name: &[u8]) -> usize
     requires { ⌜ length (now name) ≤ 128 ⌝ }
     ensures { λ r. ⌜ Wrote (now (out .entry)) at (snakeOf (now (name .entry))) (now (out .exit)) r ⌝ }
 {
-    put_form(out, at, snake(name))
+    put_form(out, at, name, false, true)
 }
 
 pub fn put_pascal(out: &mut [u8], at: usize, name: &[u8]) -> usize
     requires { ⌜ length (now name) ≤ 128 ⌝ }
     ensures { λ r. ⌜ Wrote (now (out .entry)) at (pascalOf (now (name .entry))) (now (out .exit)) r ⌝ }
 {
-    put_form(out, at, pascal(name))
+    put_form(out, at, name, true, false)
 }
 
 pub enum Order {

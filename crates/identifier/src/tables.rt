@@ -84,28 +84,28 @@ pub fn class_in(class: &[u8; 256], b: u8) -> u8
     class[b as usize]
 }
 
-pub fn lower_in(lower: &[u8; 256], b: u8) -> u8
+pub(crate) fn lower_in(lower: &[u8; 256], b: u8) -> u8
     requires { ⌜ now lower ≡ table lowerOf ⌝ }
     ensures { λ r. ⌜ r ≡ lowerOf b ⌝ }
 {
     lower[b as usize]
 }
 
-pub fn upper_in(upper: &[u8; 256], b: u8) -> u8
+pub(crate) fn upper_in(upper: &[u8; 256], b: u8) -> u8
     requires { ⌜ now upper ≡ table upperOf ⌝ }
     ensures { λ r. ⌜ r ≡ upperOf b ⌝ }
 {
     upper[b as usize]
 }
 
-pub fn is_printable(class: &[u8; 256], b: u8) -> bool
+fn is_printable(class: &[u8; 256], b: u8) -> bool
     requires { ⌜ now class ≡ table classOf ⌝ }
     ensures { λ r. ⌜ r ≡ isPrintable b ⌝ }
 {
     0 < class_in(class, b)
 }
 
-pub fn is_break(class: &[u8; 256], b: u8) -> bool
+pub(crate) fn is_break(class: &[u8; 256], b: u8) -> bool
     requires { ⌜ now class ≡ table classOf ⌝ }
     ensures { λ r. ⌜ r ≡ isBreak b ⌝ }
 {
@@ -113,7 +113,7 @@ pub fn is_break(class: &[u8; 256], b: u8) -> bool
     (k == 4) | (k == 6)
 }
 
-pub fn is_upper(class: &[u8; 256], b: u8) -> bool
+pub(crate) fn is_upper(class: &[u8; 256], b: u8) -> bool
     requires { ⌜ now class ≡ table classOf ⌝ }
     ensures { λ r. ⌜ r ≡ isUpper b ⌝ }
 {

@@ -16,7 +16,7 @@ use Rattle.wire.proofs.Numbers.{leBytes-length, leAt-leBytes}
 use Rattle.identifier.specs.Byte.{within}
 use Rattle.identifier.specs.Name.{isName}
 use Rattle.token.specs.Kind.{isPlain}
-use Rattle.token.specs.Payload.{all, isPath, isComment, areParagraphs, paragraphsIn, paragraphsOf, paragraphBytes}
+use Rattle.token.specs.Payload.{isPath, isComment, areParagraphs, paragraphsIn, paragraphsOf, paragraphBytes}
 use Rattle.schema.specs.Ast.{Rule, Field, Import, Declaration}
 use Rattle.schema.specs.Limits.{CommentWithin, ImportWithin, OptionWithin, FieldWithin, DeletedWithin, DeclarationWithin}
 use Rattle.schema.specs.Encode.{sized, counted, importPayload, importPart, ruleNumber, fieldPayload, indices, declarationPayload}

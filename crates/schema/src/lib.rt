@@ -59,10 +59,11 @@ fn is_import(class: &[u8; 256], p: &[u8]) -> bool
     if !is_named(class, p) {
         return false;
     }
-    token::is_path(after_name(p))
+    token::is_path(class, after_name(p))
 }
 
-fn is_counted(p: &[u8]) -> bool
+fn is_counted(class: &[u8; 256], p: &[u8]) -> bool
+    requires { ⌜ now class ≡ table classOf ⌝ }
     ensures { λ r. ⌜ r ≡ isCounted (now (p .entry)) ⌝ }
 {
     if p.len() < 2 {
@@ -73,7 +74,7 @@ fn is_counted(p: &[u8]) -> bool
     if rest.len() == 0 {
         return count == 0;
     }
-    if !token::is_comment(rest) {
+    if !token::is_comment(class, rest) {
         return false;
     }
     count == token::paragraph_count(rest)
@@ -86,7 +87,7 @@ fn is_declaration(class: &[u8; 256], p: &[u8]) -> bool
     if !is_named(class, p) {
         return false;
     }
-    is_counted(after_name(p))
+    is_counted(class, after_name(p))
 }
 
 fn is_field(class: &[u8; 256], p: &[u8]) -> bool
@@ -181,7 +182,7 @@ fn is_payload(class: &[u8; 256], kind: u16, p: &[u8]) -> bool
     ensures { λ r. ⌜ r ≡ isPayload kind (now (p .entry)) ⌝ }
 {
     if kind == kind::COMMENT {
-        return token::is_comment(p);
+        return token::is_comment(class, p);
     }
     if kind == kind::IMPORT {
         return is_import(class, p);

@@ -1,4 +1,5 @@
 -- What the definition answers on small tables, computed: each number of document 01 on both sides of its boundary, and their order in a record.
+-- A table that is too large is `checked-large` in Records.
 use Prim.Native.Nat.{ℕ}
 use mathlib.Core.Path.{_≡_, refl}
 use mathlib.Core.List.{List, [], _∷_, _++_, map}
@@ -12,12 +13,9 @@ use Rattle.token.specs.Payload.{isIdentifier, isPath, isInteger, isParag
 use Rattle.token.specs.Table.{tokenOf, isWhole, tokenFault, rowAfter, faultOf, Decoded, refused, tokens, decodeFrom, decode}
 
 -- a refusal's number and offset; nothing where the table is good
-abbrev answer : Bytes → List ℕ
-answer t = faults (decode t)
-  where
-    faults : Decoded → List ℕ
-    faults (refused number at) = number ∷ at ∷ []
-    faults (tokens ts) = []
+abbrev faults : Decoded → List ℕ
+faults (refused number at) = number ∷ at ∷ []
+faults (tokens ts) = []
 
 -- a table, and what it is refused with
 record Case : Type 0 where
@@ -60,10 +58,6 @@ paragraphs ps = holding kComment (paragraphBytes ps)
 abbrev cases : List Case
 cases =
     good []
-    ∷ bad 1 0 (replicate 65537 0)
-    ∷ bad 2 0 (replicate 65536 0)
-    -- R6
-    ∷ bad 6 49152 (times 4096 (ranged 0 0) ++ 0 ∷ [])
     -- R2
     ∷ bad 2 0 (take 11 (empty kAs))
     ∷ bad 2 12 (empty kAs ++ 12 ∷ [])
@@ -93,8 +87,9 @@ cases =
     ∷ bad 4 0 (holding kInteger (replicate 7 0))
     ∷ bad 4 0 (holding kInteger (replicate 9 0))
     ∷ bad 4 0 (empty kComment)
-    ∷ good (paragraphs (replicate 32 (letters 1024)))
+    ∷ good (paragraphs (replicate 32 (letters 1)))
     ∷ bad 4 0 (paragraphs (replicate 33 (letters 1)))
+    ∷ good (paragraphs (letters 1024 ∷ []))
     ∷ bad 4 0 (paragraphs (letters 1025 ∷ []))
     ∷ bad 4 0 (paragraphs ([] ∷ []))
     ∷ good (paragraphs (bytes "a b ~" ∷ bytes "c" ∷ []))
@@ -118,9 +113,14 @@ cases =
     ∷ bad 7 1548 (squares 64 ++ ranged 0 0 ++ squares 65)
     ∷ []
 
-all : map (λ c. answer (c .table)) cases ≡ map (λ c. c .refusal) cases
+all : map (λ c. faults (decode (c .table))) cases ≡ map (λ c. c .refusal) cases
 unfolding decode decodeFrom faultOf tokenFault rowAfter isWhole tokenOf isPayload isIdentifier isPath isInteger isComment areParagraphs isParagraph paragraphOf afterParagraph paragraphBytes leAt leNumber leBytes headBytes recordBytes pick
 all = refl
+
+-- R6, were 2 tokens the most
+full : map (λ t. faults (decodeFrom 2 0 0 0 t)) (times 2 (ranged 0 0) ∷ (times 2 (ranged 0 0) ++ 0 ∷ []) ∷ []) ≡ [] ∷ (6 ∷ 24 ∷ []) ∷ []
+unfolding decodeFrom faultOf tokenFault rowAfter isWhole tokenOf isPayload leAt leNumber leBytes headBytes recordBytes pick
+full = refl
 
 twice : paragraphsOf (paragraphBytes (bytes "a b" ∷ bytes "c" ∷ [])) ≡ bytes "a b" ∷ bytes "c" ∷ []
 unfolding paragraphsOf paragraphOf afterParagraph paragraphBytes leAt leNumber leBytes

@@ -1,18 +1,20 @@
 -- The payload rules, byte by byte and paragraph by paragraph.
-use borrow.Author.Tests.{not-true, not-false}
+use borrow.Author.Tests.{le-leb, lt-leb}
 use Prim.Native.Nat.{ℕ, zero, suc, _+_, _-_, _≤_, _<_}
 use mathlib.Core.Path.{_≡_, refl, sym, _∙_}
 use mathlib.Core.Bool.{Bool, true, false, not, _&&_}
 use mathlib.Core.List.{[], _∷_}
 use native.Mathlib.Omega.{arith}
 use native.Mathlib.Numerals.{add-one, sub-one}
-use lib.Dec.{leb, eqb, leb·zero, leb·suc-zero, leb·suc-suc}
+use lib.Dec.{leb, ltb, eqb, leb·zero, leb·suc-zero, leb·suc-suc}
 use lib.ListN.{length, getD, take, drop, drop-of-length-le, length-drop}
 use lib.Seq.{drop-cons, drop-drop, take-all}
 use Rattle.wire.specs.Bytes.{Bytes}
 use Rattle.wire.specs.Le.{leAt, u16At}
-use Rattle.identifier.specs.Byte.{isPrintable}
-use Rattle.token.specs.Payload.{all, atLeast, isSpaced, isParagraph, paragraphOf, afterParagraph, areParagraphs}
+use Rattle.identifier.specs.Byte.{isPrintable, classOf}
+use Rattle.identifier.specs.Name.{all}
+use Rattle.identifier.proofs.Table.{class-space, class-printable}
+use Rattle.token.specs.Payload.{atLeast, isSpaced, isParagraph, paragraphOf, afterParagraph, areParagraphs}
 
 pub atLeast-length : (n : ℕ) (bs : Bytes) → atLeast n bs ≡ leb n (length bs)
 atLeast-length zero bs = sym (leb·zero (length bs))
@@ -27,33 +29,47 @@ pub record Asking (f : ℕ → Bool) (p : Bytes) (i : ℕ) (r : Bool) : Type 0 w
   pub inside : i ≤ length p
   pub left : all f (drop i p) ≡ r
 
-module _ {f : ℕ → Bool} {p : Bytes} {i : ℕ} {r : Bool} (a : Asking f p i r) where
-  pub asked-no : {x : Bool} → i < length p → x ≡ f (getD p i 0) → not x ≡ true → false ≡ r
-  asked-no {x} h e n = rw (rest-step p i h, ← e, not-true x n) at (a .left)
+-- a test that compares a byte's class with the least that passes
+abbrev pub ByClass : (ℕ → Bool) → ℕ → Type 0
+ByClass f least = (b : ℕ) → b < 256 → f b ≡ leb least (classOf b)
 
-  pub asked-yes : {x : Bool} → i < length p → x ≡ f (getD p i 0) → not x ≡ false → Asking f p (i + 1) r
-  asked-yes {x} h e n = record { inside = omega (arith, h); left = rw (rest-step p i h, ← e, not-false x n) at (a .left) }
+module _ {f : ℕ → Bool} {least : ℕ} (rule : ByClass f least) {b k : ℕ} (small : b < 256) (e : k ≡ classOf b) where
+  pub class-fails : k < least → f b ≡ false
+  class-fails h = rule b small ∙ rw (← e) (lt-leb least k h)
+
+  pub class-passes : least ≤ k → f b ≡ true
+  class-passes h = rule b small ∙ rw (← e) (le-leb least k h)
+
+module _ {f : ℕ → Bool} {p : Bytes} {i : ℕ} {r : Bool} (a : Asking f p i r) where
+  pub asked-no : i < length p → f (getD p i 0) ≡ false → false ≡ r
+  asked-no h e = rw (rest-step p i h, e) at (a .left)
+
+  pub asked-yes : i < length p → f (getD p i 0) ≡ true → Asking f p (i + 1) r
+  asked-yes h e = record { inside = omega (arith, h); left = rw (rest-step p i h, e) at (a .left) }
 
   pub asked-all : length p ≤ i → true ≡ r
   asked-all h = rw (drop-of-length-le p h) at (a .left)
 
--- a loop over a paragraph stands at i, after a space or the start where `gap`
-pub record Spacing (p : Bytes) (gap : Bool) (i : ℕ) (r : Bool) : Type 0 where
+and-again : (a x y z : Bool) → ((a && (x && y)) && z) ≡ (a && (x && (y && z)))
+and-again false x y z = refl
+and-again true false y z = refl
+and-again true true y z = refl
+
+-- a loop over a paragraph stands at i, after a space or the start where `gap`; what it passed was `good`
+pub record Spacing (p : Bytes) (gap good : Bool) (i : ℕ) (r : Bool) : Type 0 where
   pub inside : i ≤ length p
-  pub left : isSpaced gap (drop i p) ≡ r
+  pub left : (good && isSpaced gap (drop i p)) ≡ r
 
-module _ {p : Bytes} {gap : Bool} {i : ℕ} {r : Bool} (s : Spacing p gap i r) where
-  pub unprintable : {x : Bool} → i < length p → x ≡ isPrintable (getD p i 0) → not x ≡ true → false ≡ r
-  unprintable {x} h e n = rw (rest-step p i h, ← e, not-true x n) at (s .left)
+module _ {p : Bytes} {gap good : Bool} {i : ℕ} {r : Bool} (s : Spacing p gap good i r) where
+  pub spaced : i < length p → getD p i 0 < 256 → {k : ℕ} → k ≡ classOf (getD p i 0) → Spacing p (eqb k 2) (good && (ltb 0 k && not (gap && eqb k 2))) (i + 1) r
+  spaced h small {k} e = record {
+    inside = omega (arith, h);
+    left =
+        rw (e, ← class-space (getD p i 0) small, ← class-printable (getD p i 0) small) (and-again good (isPrintable (getD p i 0)) _ _)
+        ∙ rw (rest-step p i h) at (s .left);
+  }
 
-  module _ {x : Bool} (h : i < length p) (e : x ≡ isPrintable (getD p i 0)) (n : not x ≡ false) where
-    pub spaced-twice : (gap && eqb (getD p i 0) 32) ≡ true → false ≡ r
-    spaced-twice t = rw (rest-step p i h, ← e, not-false x n, t) at (s .left)
-
-    pub spaced-once : (gap && eqb (getD p i 0) 32) ≡ false → Spacing p (eqb (getD p i 0) 32) (i + 1) r
-    spaced-once t = record { inside = omega (arith, h); left = rw (rest-step p i h, ← e, not-false x n, t) at (s .left) }
-
-  pub spaced-end : length p ≤ i → not gap ≡ r
+  pub spaced-end : length p ≤ i → (good && not gap) ≡ r
   spaced-end h = rw (drop-of-length-le p h) at (s .left)
 
 pub paragraphs-none : (n : ℕ) → areParagraphs n [] ≡ true

@@ -8,11 +8,8 @@ use Rattle.wire.specs.Bytes.{Bytes}
 use Rattle.wire.specs.Le.{leBytes, u16At}
 use Rattle.wire.specs.Pick.{pick}
 use Rattle.identifier.specs.Byte.{within, isLetter, isDigit, isBreak, isPrintable}
+use Rattle.identifier.specs.Name.{all}
 use Rattle.token.specs.Kind.{kIdentifier, kPath, kInteger, kComment}
-
-abbrev pub all : (ℕ → Bool) → Bytes → Bool
-all p [] = true
-all p (b ∷ bs) = p b && all p bs
 
 -- at least n bytes
 abbrev pub atLeast : ℕ → Bytes → Bool

@@ -4,45 +4,23 @@ ghost use Prim.Native.Nat.{_≤_, _<_};
 ghost use mathlib.Core.Bool.{true};
 ghost use lib.ListN.{length};
 ghost use Rattle.wire.specs.Le.{leNumber};
-ghost use Rattle.identifier.specs.Byte.{isPrintable};
+ghost use Rattle.identifier.specs.Byte.{classOf};
+ghost use Rattle.identifier.specs.Table.{table};
 ghost use Rattle.token.specs.Kind.{kInteger};
 ghost use Rattle.token.specs.Token.{token};
-ghost use Rattle.token.specs.Payload.{isNameStart, isNameByte, isPathByte, isIdentifier, isPath, isParagraph, isComment, isPayload, paragraphsOf};
+ghost use Rattle.token.specs.Payload.{isIdentifier, isPath, isParagraph, isComment, isPayload, paragraphsOf};
 ghost use Rattle.token.specs.Table.{isWhole, rowAfter, tokenFault, faultOf};
 ghost use Rattle.token.specs.Checked.{checked};
 ghost use Rattle.token.specs.Places.{tokAt, nextAt, Wf};
+use identifier::tables::class_in;
 
 pub mod kind;
 
 // of a name or a path
 const LONGEST: usize = 128;
 
-fn is_name_start(b: u8) -> bool
-    ensures { λ r. ⌜ r ≡ isNameStart b ⌝ }
-{
-    (((b'A' <= b) & (b <= b'Z')) | ((b'a' <= b) & (b <= b'z'))) | (b == b'_')
-}
-
-fn is_name_byte(b: u8) -> bool
-    ensures { λ r. ⌜ r ≡ isNameByte b ⌝ }
-{
-    (((b'A' <= b) & (b <= b'Z')) | ((b'a' <= b) & (b <= b'z')))
-        | (((b'0' <= b) & (b <= b'9')) | ((b == b'_') | (b == b'-')))
-}
-
-pub fn is_printable(b: u8) -> bool
-    ensures { λ r. ⌜ r ≡ isPrintable b ⌝ }
-{
-    (b' ' <= b) & (b <= b'~')
-}
-
-fn is_path_byte(b: u8) -> bool
-    ensures { λ r. ⌜ r ≡ isPathByte b ⌝ }
-{
-    ((b' ' <= b) & (b <= b'~')) & (b != b'\'')
-}
-
-fn is_identifier(p: &[u8]) -> bool
+fn is_identifier(class: &[u8; 256], p: &[u8]) -> bool
+    requires { ⌜ now class ≡ table classOf ⌝ }
     ensures { λ r. ⌜ r ≡ isIdentifier (now (p .entry)) ⌝ }
 {
     if p.len() < 1 {
@@ -51,12 +29,12 @@ fn is_identifier(p: &[u8]) -> bool
     if LONGEST < p.len() {
         return false;
     }
-    if !is_name_start(p[0]) {
+    if class_in(class, p[0]) < 6 {
         return false;
     }
     let mut i = 0;
     while i < p.len() {
-        if !is_name_byte(p[i]) {
+        if class_in(class, p[i]) < 4 {
             return false;
         }
         i += 1;
@@ -64,7 +42,8 @@ fn is_identifier(p: &[u8]) -> bool
     true
 }
 
-pub fn is_path(p: &[u8]) -> bool
+pub fn is_path(class: &[u8; 256], p: &[u8]) -> bool
+    requires { ⌜ now class ≡ table classOf ⌝ }
     ensures { λ r. ⌜ r ≡ isPath (now (p .entry)) ⌝ }
 {
     if LONGEST < p.len() {
@@ -72,7 +51,7 @@ pub fn is_path(p: &[u8]) -> bool
     }
     let mut i = 0;
     while i < p.len() {
-        if !is_path_byte(p[i]) {
+        if class_in(class, p[i]) < 2 {
             return false;
         }
         i += 1;
@@ -80,7 +59,9 @@ pub fn is_path(p: &[u8]) -> bool
     true
 }
 
-fn is_paragraph(p: &[u8]) -> bool
+// No early return in the loop: the compiler then tests many bytes at once.
+fn is_paragraph(class: &[u8; 256], p: &[u8]) -> bool
+    requires { ⌜ now class ≡ table classOf ⌝ }
     ensures { λ r. ⌜ r ≡ isParagraph (now (p .entry)) ⌝ }
 {
     if p.len() < 1 {
@@ -90,23 +71,20 @@ fn is_paragraph(p: &[u8]) -> bool
         return false;
     }
     let mut gap = true;
+    let mut good = true;
     let mut i = 0;
     while i < p.len() {
-        let b = p[i];
-        if !is_printable(b) {
-            return false;
-        }
-        let space = b == b' ';
-        if gap & space {
-            return false;
-        }
+        let k = class_in(class, p[i]);
+        let space = k == 2;
+        good = good & ((0 < k) & !(gap & space));
         gap = space;
         i += 1;
     }
-    !gap
+    good & !gap
 }
 
-pub fn is_comment(p: &[u8]) -> bool
+pub fn is_comment(class: &[u8; 256], p: &[u8]) -> bool
+    requires { ⌜ now class ≡ table classOf ⌝ }
     ensures { λ r. ⌜ r ≡ isComment (now (p .entry)) ⌝ }
 {
     if p.len() < 1 {
@@ -125,7 +103,7 @@ pub fn is_comment(p: &[u8]) -> bool
         if p.len() - at < 2 + size {
             return false;
         }
-        if !is_paragraph(&p[at + 2..at + 2 + size]) {
+        if !is_paragraph(class, &p[at + 2..at + 2 + size]) {
             return false;
         }
         left -= 1;
@@ -134,20 +112,21 @@ pub fn is_comment(p: &[u8]) -> bool
     true
 }
 
-fn is_payload(kind: u16, p: &[u8]) -> bool
+fn is_payload(class: &[u8; 256], kind: u16, p: &[u8]) -> bool
+    requires { ⌜ now class ≡ table classOf ⌝ }
     ensures { λ r. ⌜ r ≡ isPayload kind (now (p .entry)) ⌝ }
 {
     if kind == kind::IDENTIFIER {
-        return is_identifier(p);
+        return is_identifier(class, p);
     }
     if kind == kind::PATH {
-        return is_path(p);
+        return is_path(class, p);
     }
     if kind == kind::INTEGER {
         return p.len() == 8;
     }
     if kind == kind::COMMENT {
-        return is_comment(p);
+        return is_comment(class, p);
     }
     p.len() == 0
 }
@@ -176,14 +155,22 @@ fn row_after(row: usize, kind: u16) -> usize
 }
 
 // The number that a token is refused with; 0 for none.
-fn token_fault(last: u32, row: usize, kind: u16, start: u32, end: u32, p: &[u8]) -> u16
-    requires { ⌜ row ≤ 64 ⌝ }
+fn token_fault(
+    class: &[u8; 256],
+    last: u32,
+    row: usize,
+    kind: u16,
+    start: u32,
+    end: u32,
+    p: &[u8],
+) -> u16
+    requires { ⌜ (now class ≡ table classOf) × (row ≤ 64) ⌝ }
     ensures { λ r. ⌜ r ≡ tokenFault last row (token kind start end (now (p .entry))) ⌝ }
 {
     if !((1 <= kind) & (kind <= 25)) {
         return 3;
     }
-    if !is_payload(kind, p) {
+    if !is_payload(class, kind, p) {
         return 4;
     }
     if !((last <= start) & (start <= end)) {
@@ -196,8 +183,8 @@ fn token_fault(last: u32, row: usize, kind: u16, start: u32, end: u32, p: &[u8])
 }
 
 // The same of the record that these bytes begin with.
-fn fault(last: u32, row: usize, bs: &[u8]) -> u16
-    requires { ⌜ row ≤ 64 ⌝ }
+fn fault(class: &[u8; 256], last: u32, row: usize, bs: &[u8]) -> u16
+    requires { ⌜ (now class ≡ table classOf) × (row ≤ 64) ⌝ }
     ensures { λ r. ⌜ r ≡ faultOf last row (now (bs .entry)) ⌝ }
 {
     if !is_whole(bs) {
@@ -207,7 +194,7 @@ fn fault(last: u32, row: usize, bs: &[u8]) -> u16
     let kind = wire::u16_at(bs, 2);
     let start = wire::u32_at(bs, 4);
     let end = wire::u32_at(bs, 8);
-    token_fault(last, row, kind, start, end, &bs[12..size])
+    token_fault(class, last, row, kind, start, end, &bs[12..size])
 }
 
 // The refusal's number and the faulty record's offset, or how many tokens there are and where the last ends.
@@ -216,12 +203,11 @@ pub enum Checked {
     Fine(usize, u32),
 }
 
-pub fn check(t: &[u8]) -> Checked
+// Record by record, in a table that is not too large.
+fn check_records(class: &[u8; 256], t: &[u8]) -> Checked
+    requires { ⌜ (now class ≡ table classOf) × (length (now t) ≤ 65536) ⌝ }
     ensures { λ r. ⌜ r ≡ checked (now (t .entry)) ⌝ }
 {
-    if 65536 < t.len() {
-        return Checked::Refused(1, 0);
-    }
     let mut at: usize = 0;
     let mut count: usize = 0;
     let mut last: u32 = 0;
@@ -231,7 +217,7 @@ pub fn check(t: &[u8]) -> Checked
             return Checked::Refused(6, at);
         }
         let bs = &t[at..];
-        let number = fault(last, row, bs);
+        let number = fault(class, last, row, bs);
         if number != 0 {
             return Checked::Refused(number, at);
         }
@@ -241,6 +227,16 @@ pub fn check(t: &[u8]) -> Checked
         at += wire::u16_at(bs, 0) as usize;
     }
     Checked::Fine(count, last)
+}
+
+pub fn check(t: &[u8]) -> Checked
+    ensures { λ r. ⌜ r ≡ checked (now (t .entry)) ⌝ }
+{
+    if 65536 < t.len() {
+        return Checked::Refused(1, 0);
+    }
+    let class = identifier::tables::class_table();
+    check_records(&class, t)
 }
 
 // The walk over a table that passed the check: what stands at a place, and the place after it.

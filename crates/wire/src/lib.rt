@@ -106,7 +106,7 @@ pub fn put_u16(out: &mut [u8], at: usize, n: u16) -> usize
     put_le(out, at, 2, n as u64)
 }
 
-pub fn put_u32(out: &mut [u8], at: usize, n: u32) -> usize
+fn put_u32(out: &mut [u8], at: usize, n: u32) -> usize
     ensures { λ r. ⌜ Wrote (now (out .entry)) at (leBytes 4 n) (now (out .exit)) r ⌝ }
 {
     put_le(out, at, 4, n as u64)

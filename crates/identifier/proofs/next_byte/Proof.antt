@@ -1,5 +1,5 @@
 -- `identifier::next_byte`: the loop has passed over breaks (`Passed`).
-use mathlib.Core.Path.{refl}
+use mathlib.Core.Path.{refl, sym, _∙_}
 use Prim.Native.Nat.{_-_}
 use lib.ListN.{length}
 use Rattle.identifier.proofs.Left.{Passed, passed, at-word, at-end}
@@ -17,16 +17,16 @@ loop-holds : tie.Need-loop-holds Inv-loop μ-loop
 loop-holds c = record { same = refl }
 
 loop-again : tie.Need-loop-again Inv-loop μ-loop
-loop-again c = search passed
+loop-again c = passed (c .before .before .before .before .before .loop .inv) (c .before .before .before .before .loop-test .taken) (c .before .before .is-break .ensures) (c .before .if1 .taken) (c .after-break .ensures)
 
 word-byte-requires : tie.Need-word-byte-requires Inv-loop μ-loop
-word-byte-requires c κs = (search needs, search needs, cc)
+word-byte-requires c κs = (c .before .before .before .before .before .before .pre, c .before .before .before .loop-test .taken, sym (c .before .is-break .ensures) ∙ c .if1 .left)
 
 returns : tie.Need-returns Inv-loop μ-loop
-returns c = search at-word
+returns c = at-word (c .before .before .before .before .before .loop .inv) (c .word-byte .ensures)
 
 returns-2 : tie.Need-returns-2 Inv-loop μ-loop
-returns-2 c = search at-end
+returns-2 c = at-end (c .before .loop .inv) (c .loop-test .left)
 
 pub next-byte-spec : {M : Type 1} → statement M
 next-byte-spec =

@@ -1,14 +1,43 @@
--- `identifier::put_form`: the front of the array is put.
-use mathlib.Core.Path.{sym}
-use lib.Seq.{length-take-le}
+-- `identifier::put_form`: what is left of the form at a place of the name completes it (`Putting`).
 use borrow.Author.Needs.{needs}
+use native.Mathlib.Omega.{arith}
+use Prim.Native.Nat.{_-_}
+use lib.ListN.{length}
+use Rattle.wire.proofs.Laws.{wrote-length}
+use Rattle.identifier.proofs.Added.{Putting, putting-begin, putting-more, putting-done}
 use Rattle.identifier.proofs.put_form.Statement.{statement}
 use Rattle.identifier.proofs.put_form.Tie as tie
 
-slice-aggregate-put-slice : tie.Need-slice-aggregate-put-slice
-slice-aggregate-put-slice c = sym (length-take-le _ _ (c .before .before .before .before .pre))
+abbrev Inv-loop : tie.InvT-loop
+Inv-loop out₀ at name up bar class lower upper a₀ i₀ state₀ out a i state = Putting up bar name out₀ a₀ out a i state
+
+abbrev μ-loop : tie.MeasureT-loop
+μ-loop out₀ at name up bar class lower upper a₀ i₀ state₀ out a i state = length name - i
+
+loop-less : tie.Need-loop-less Inv-loop μ-loop
+loop-less c = omega (arith, c .before .before .before .before .before .before .before .before .before .before .loop-test .taken)
+
+loop-again : tie.Need-loop-again Inv-loop μ-loop
+loop-again c = putting-more (c .before .before .before .before .before .before .before .before .before .before .before .loop .inv) (c .before .before .before .before .before .before .before .before .before .before .loop-test .taken) (c .before .before .before .before .put-next .ensures) (c .state-after .ensures)
+
+returns : tie.Need-returns Inv-loop μ-loop
+returns c = putting-done (c .before .loop .inv) (c .loop-test .left)
 
 pub put-form-spec : {M : Type 1} → statement M
 put-form-spec =
     tie.close
-    (tie.spec (λ c. search needs) slice-aggregate-put-slice (λ c κs. search needs) (λ c. search needs) (λ c. search needs))
+    (tie.spec
+    Inv-loop
+    μ-loop
+    (λ c κs. search needs)
+    (λ c κs. search needs)
+    (λ c κs. search needs)
+    (λ c. putting-begin)
+    (λ c. search needs)
+    (λ c κs. search needs)
+    (λ c κs. search needs)
+    (λ c. search needs)
+    loop-less
+    loop-again
+    (λ c. wrote-length (returns c))
+    returns)

@@ -9,10 +9,10 @@ use Rattle.token.proofs.is_comment.Statement.{statement}
 use Rattle.token.proofs.is_comment.Tie as tie
 
 abbrev Inv-loop : tie.InvT-loop
-Inv-loop p left₀ at₀ left at = Paging p left at (isComment p)
+Inv-loop class p left₀ at₀ left at = Paging p left at (isComment p)
 
 abbrev μ-loop : tie.MeasureT-loop
-μ-loop p left₀ at₀ left at = length p - at
+μ-loop class p left₀ at₀ left at = length p - at
 
 returns : tie.Need-returns Inv-loop μ-loop
 unfolding isComment

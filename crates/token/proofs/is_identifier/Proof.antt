@@ -1,18 +1,26 @@
 use borrow.Author.Needs.{needs}
-use Prim.Native.Nat.{_-_}
+use Prim.Native.Nat.{_-_, _<_}
 use native.Mathlib.Omega.{arith}
-use lib.ListN.{length}
+use denote.Ref.{now}
+use lib.ListN.{length, getD}
 use Rattle.wire.proofs.Choice.{choice}
+use Rattle.identifier.proofs.Table.{class-name, class-start}
 use Rattle.token.specs.Payload.{isNameByte, isIdentifier}
-use Rattle.token.proofs.Laws.{Asking, asked-no, asked-yes, asked-all}
+use Rattle.token.proofs.Laws.{Asking, asked-no, asked-yes, asked-all, class-fails, class-passes}
 use Rattle.token.proofs.is_identifier.Statement.{statement}
 use Rattle.token.proofs.is_identifier.Tie as tie
 
 abbrev Inv-loop : tie.InvT-loop
-Inv-loop p i₀ i = Asking isNameByte p i (isIdentifier p)
+Inv-loop class p i₀ i = Asking isNameByte p i (isIdentifier p)
 
 abbrev μ-loop : tie.MeasureT-loop
-μ-loop p i₀ i = length p - i
+μ-loop class p i₀ i = length p - i
+
+first : (c : tie.After-class-in Inv-loop μ-loop) → getD (now (c .before .before .before .before .before .args .p)) 0 0 < 256
+first c = omega (arith, c .before .shared-slice-known2 .given 0)
+
+small : (c : tie.After-class-in2 Inv-loop μ-loop) → getD (now (c .before .before .before .before .before .before .before .before .before .before .args .p)) (c .before .before .before .loop .i) 0 < 256
+small c = omega (arith, c .before .shared-slice-known3 .given (c .before .before .before .loop .i))
 
 returns : tie.Need-returns Inv-loop μ-loop
 unfolding isIdentifier
@@ -24,17 +32,17 @@ returns-2 c = search choice
 
 returns-3 : tie.Need-returns-3 Inv-loop μ-loop
 unfolding isIdentifier
-returns-3 c = rw (← c .before .is-name-start .ensures) (search choice)
+returns-3 c = rw (class-fails class-start (first (c .before)) (c .before .class-in .ensures) (c .if3 .taken)) (search choice)
 
 loop-holds : tie.Need-loop-holds Inv-loop μ-loop
 unfolding isIdentifier
-loop-holds c = record { inside = omega arith; left = rw (← c .before .is-name-start .ensures) (search choice) }
+loop-holds c = record { inside = omega arith; left = rw (class-passes class-start (first (c .before)) (c .before .class-in .ensures) (c .if3 .left)) (search choice) }
 
 returns-4 : tie.Need-returns-4 Inv-loop μ-loop
-returns-4 c = asked-no (c .before .before .before .before .loop .inv) (c .before .before .before .loop-test .taken) (c .before .is-name-byte .ensures) (c .if4 .taken)
+returns-4 c = asked-no (c .before .before .before .before .loop .inv) (c .before .before .before .loop-test .taken) (class-fails class-name (small (c .before)) (c .before .class-in2 .ensures) (c .if4 .taken))
 
 loop-again : tie.Need-loop-again Inv-loop μ-loop
-loop-again c = asked-yes (c .before .before .before .before .loop .inv) (c .before .before .before .loop-test .taken) (c .before .is-name-byte .ensures) (c .if4 .left)
+loop-again c = asked-yes (c .before .before .before .before .loop .inv) (c .before .before .before .loop-test .taken) (class-passes class-name (small (c .before)) (c .before .class-in2 .ensures) (c .if4 .left))
 
 returns-5 : tie.Need-returns-5 Inv-loop μ-loop
 returns-5 c = asked-all (c .before .loop .inv) (c .loop-test .left)

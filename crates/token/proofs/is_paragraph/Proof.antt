@@ -4,15 +4,15 @@ use native.Mathlib.Omega.{arith}
 use lib.ListN.{length}
 use Rattle.wire.proofs.Choice.{choice}
 use Rattle.token.specs.Payload.{isParagraph}
-use Rattle.token.proofs.Laws.{Spacing, unprintable, spaced-twice, spaced-once, spaced-end}
+use Rattle.token.proofs.Laws.{Spacing, spaced, spaced-end}
 use Rattle.token.proofs.is_paragraph.Statement.{statement}
 use Rattle.token.proofs.is_paragraph.Tie as tie
 
 abbrev Inv-loop : tie.InvT-loop
-Inv-loop p gap₀ i₀ gap i = Spacing p gap i (isParagraph p)
+Inv-loop class p gap₀ good₀ i₀ gap good i = Spacing p gap good i (isParagraph p)
 
 abbrev μ-loop : tie.MeasureT-loop
-μ-loop p gap₀ i₀ gap i = length p - i
+μ-loop class p gap₀ good₀ i₀ gap good i = length p - i
 
 returns : tie.Need-returns Inv-loop μ-loop
 unfolding isParagraph
@@ -26,19 +26,13 @@ loop-holds : tie.Need-loop-holds Inv-loop μ-loop
 unfolding isParagraph
 loop-holds c = record { inside = omega arith; left = search choice }
 
-returns-3 : tie.Need-returns-3 Inv-loop μ-loop
-returns-3 c = unprintable (c .before .before .before .before .loop .inv) (c .before .before .before .loop-test .taken) (c .before .is-printable .ensures) (c .if3 .taken)
-
-returns-4 : tie.Need-returns-4 Inv-loop μ-loop
-returns-4 c = spaced-twice (c .before .before .before .before .before .loop .inv) (c .before .before .before .before .loop-test .taken) (c .before .before .is-printable .ensures) (c .before .if3 .left) (c .if4 .taken)
-
 loop-again : tie.Need-loop-again Inv-loop μ-loop
-loop-again c = spaced-once (c .before .before .before .before .before .loop .inv) (c .before .before .before .before .loop-test .taken) (c .before .before .is-printable .ensures) (c .before .if3 .left) (c .if4 .left)
+loop-again c = spaced (c .before .before .before .loop .inv) (c .before .before .loop-test .taken) (omega (arith, c .before .shared-slice-known2 .given (c .before .before .before .loop .i))) (c .class-in .ensures)
 
-returns-5 : tie.Need-returns-5 Inv-loop μ-loop
-returns-5 c = spaced-end (c .before .loop .inv) (c .loop-test .left)
+returns-3 : tie.Need-returns-3 Inv-loop μ-loop
+returns-3 c = spaced-end (c .before .loop .inv) (c .loop-test .left)
 
 pub is-paragraph-spec : {M : Type 1} → statement M
 is-paragraph-spec =
     tie.close
-    (tie.spec Inv-loop μ-loop returns returns-2 loop-holds (λ c. search needs) (λ c κs. search needs) returns-3 returns-4 (λ c. search needs) (λ c. search needs) loop-again returns-5)
+    (tie.spec Inv-loop μ-loop returns returns-2 loop-holds (λ c. search needs) (λ c κs. search needs) (λ c. search needs) (λ c. search needs) loop-again returns-3)

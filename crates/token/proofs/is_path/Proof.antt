@@ -1,18 +1,23 @@
 use borrow.Author.Needs.{needs}
-use Prim.Native.Nat.{_-_}
+use Prim.Native.Nat.{_-_, _<_}
 use native.Mathlib.Omega.{arith}
-use lib.ListN.{length}
+use denote.Ref.{now}
+use lib.ListN.{length, getD}
 use Rattle.wire.proofs.Choice.{choice}
+use Rattle.identifier.proofs.Table.{class-path}
 use Rattle.token.specs.Payload.{isPathByte, isPath}
-use Rattle.token.proofs.Laws.{Asking, asked-no, asked-yes, asked-all}
+use Rattle.token.proofs.Laws.{Asking, asked-no, asked-yes, asked-all, class-fails, class-passes}
 use Rattle.token.proofs.is_path.Statement.{statement}
 use Rattle.token.proofs.is_path.Tie as tie
 
 abbrev Inv-loop : tie.InvT-loop
-Inv-loop p i₀ i = Asking isPathByte p i (isPath p)
+Inv-loop class p i₀ i = Asking isPathByte p i (isPath p)
 
 abbrev μ-loop : tie.MeasureT-loop
-μ-loop p i₀ i = length p - i
+μ-loop class p i₀ i = length p - i
+
+small : (c : tie.After-class-in Inv-loop μ-loop) → getD (now (c .before .before .before .before .before .before .args .p)) (c .before .before .before .loop .i) 0 < 256
+small c = omega (arith, c .before .shared-slice-known2 .given (c .before .before .before .loop .i))
 
 returns : tie.Need-returns Inv-loop μ-loop
 unfolding isPath
@@ -23,10 +28,10 @@ unfolding isPath
 loop-holds c = record { inside = omega arith; left = search choice }
 
 returns-2 : tie.Need-returns-2 Inv-loop μ-loop
-returns-2 c = asked-no (c .before .before .before .before .loop .inv) (c .before .before .before .loop-test .taken) (c .before .is-path-byte .ensures) (c .if2 .taken)
+returns-2 c = asked-no (c .before .before .before .before .loop .inv) (c .before .before .before .loop-test .taken) (class-fails class-path (small (c .before)) (c .before .class-in .ensures) (c .if2 .taken))
 
 loop-again : tie.Need-loop-again Inv-loop μ-loop
-loop-again c = asked-yes (c .before .before .before .before .loop .inv) (c .before .before .before .loop-test .taken) (c .before .is-path-byte .ensures) (c .if2 .left)
+loop-again c = asked-yes (c .before .before .before .before .loop .inv) (c .before .before .before .loop-test .taken) (class-passes class-path (small (c .before)) (c .before .class-in .ensures) (c .if2 .left))
 
 returns-3 : tie.Need-returns-3 Inv-loop μ-loop
 returns-3 c = asked-all (c .before .loop .inv) (c .loop-test .left)
