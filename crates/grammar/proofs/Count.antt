@@ -42,7 +42,7 @@ indices-count before (t ∷ ts) =
       indices-count (t ∷ before) ts,
     )
 
-run-length : (is′ r : List Token) → length (each _∷_ is′ r) ≡ length is′ + length r
+pub run-length : (is′ r : List Token) → length (each _∷_ is′ r) ≡ length is′ + length r
 run-length [] r = omega arith
 run-length (i ∷ is′) r = omega (arith, run-length is′ r)
 

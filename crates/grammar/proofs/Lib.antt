@@ -1,4 +1,5 @@
--- The theorems of the grammar. Demand3 holds the statements; the others prove them, rule by rule.
+-- The theorems of the grammar. Demand3 holds the statements of demand 3, Within and Twice end with those about what reading gives; the others prove
+-- them, rule by rule.
 pub mod Demand3
 pub mod Rules
 pub mod Eats
@@ -15,4 +16,8 @@ pub mod Fuel
 pub mod Count
 pub mod Sorting
 pub mod Ranges
+pub mod Held
+pub mod Stems
+pub mod Within
+pub mod Twice
 pub mod Examples
