@@ -3,7 +3,7 @@ ghost use mathlib.Core.Path.{_≡_};
 ghost use Rattle.token.specs.Kind.{isPlain, isRule, isKeyword};
 use token::kind;
 
-pub fn is_plain(kind: u16) -> bool
+pub(crate) fn is_plain(kind: u16) -> bool
     ensures { λ r. ⌜ r ≡ isPlain kind ⌝ }
 {
     (kind == kind::BOOL)
@@ -15,7 +15,7 @@ pub fn is_plain(kind: u16) -> bool
         | (kind == kind::UNIT)
 }
 
-pub fn is_rule(kind: u16) -> bool
+pub(crate) fn is_rule(kind: u16) -> bool
     ensures { λ r. ⌜ r ≡ isRule kind ⌝ }
 {
     (kind == kind::ASYMMETRIC) | (kind == kind::OPTIONAL)

@@ -63,7 +63,7 @@ pub struct Skip {
     pub next: Cursor,
 }
 
-pub fn skip_token(t: &[u8], c: Cursor, kind: u16) -> Skip
+fn skip_token(t: &[u8], c: Cursor, kind: u16) -> Skip
     requires { ⌜ (Wf (now t) (c .at)) × (0 < kind) ⌝ }
     ensures { λ r. ⌜ Skipped (now (t .entry)) c (is kind) r ⌝ }
 {
@@ -206,7 +206,7 @@ fn parse_closing(t: &[u8], left: Cursor, inner: TypeStep) -> TypeStep
     }
 }
 
-pub fn parse_type(t: &[u8], c: Cursor) -> TypeStep
+fn parse_type(t: &[u8], c: Cursor) -> TypeStep
     requires { ⌜ Wf (now t) (c .at) ⌝ }
     ensures { λ r. ⌜ TypeRead (now (t .entry)) c parseType r ⌝ }
 {

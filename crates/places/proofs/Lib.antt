@@ -1,0 +1,2 @@
+-- Laws of collecting.
+pub mod Gathered

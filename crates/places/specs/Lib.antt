@@ -1,0 +1,2 @@
+-- Places of a table, and what is collected there.
+pub mod Places
