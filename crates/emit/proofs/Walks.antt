@@ -41,9 +41,6 @@ use Rattle.emit.specs.declared.Emitted.{Emitted}
 use Rattle.emit.proofs.Skips.{skip-other, skip-right}
 use Rattle.emit.proofs.Bodies.{Body, body}
 
-pub stepped-less : {t : Bytes} {c d : Cursor} → Stepped t c d → length t - d .at < length t - c .at
-stepped-less {t} {c} p = omega (arith, p .place, next-past t (c .at), p .here .1, p .wf .inside)
-
 -- Fields.
 
 -- the test of a kind, 0 at the list's end, is the test of the fields' end

@@ -1,22 +1,16 @@
 // The schema table of a token table that is read without errors.
 ghost use mathlib.Core.Path.{_≡_};
-ghost use mathlib.Core.List.{map};
-ghost use Prim.Native.Nat.{_≤_};
 ghost use lib.Dec.{ltb};
-ghost use lib.ListN.{length};
 ghost use Rattle.wire.specs.Put.{Wrote};
 ghost use Rattle.token.specs.Places.{tokensFrom, Wf};
 ghost use Rattle.schema.specs.Encode.{indices, encodeDeleted, encodeSchema};
-ghost use Rattle.grammar.specs.Tree.{All};
 ghost use Rattle.grammar.specs.Sort.{sortBy};
 ghost use Rattle.grammar.specs.Meaning.{schemaOf};
 ghost use Rattle.grammar.specs.Reading.{skip, parseDeleted, parseSchema};
 ghost use Rattle.parser.specs.Steps.{ahead};
-ghost use Rattle.sorted.specs.Item.{IsInteger};
 ghost use Rattle.imports.specs.Imports.{Clear};
 ghost use Rattle.emit.specs.Emits.{Emits, Before, Room, fieldsFrom, fieldsBytes, declarationFrom, declarationsFrom, declarationsBytes, isOther, Opening, Readable};
-ghost use Rattle.emit.specs.Indices.{numberAt, Integers, Sortable, deletedBytes};
-use imports::Collected;
+ghost use Rattle.emit.specs.Indices.{Sortable, deletedBytes};
 use parser::Cursor;
 use parser::FieldStep;
 use parser::HeadStep;
@@ -52,48 +46,31 @@ fn put_fields(out: &mut [u8], o: usize, t: &[u8], from: Cursor) -> Emitted
     }
 }
 
-// The places of the Integers from `from` on.
-fn collect_integers(t: &[u8], from: Cursor, items: &mut [u64]) -> Collected
-    requires { ⌜ (Wf (now t) (from .at)) × (length (ahead (now t) from) ≤ length (now items)) ⌝ }
-    ensures { λ r. ⌜ Integers (now (t .entry)) from (now (items .exit)) r ⌝ }
-{
-    let mut n: usize = 0;
-    let mut c = from;
-    while kind_or_end(t, c) == kind::INTEGER {
-        let at = c.at;
-        items[n] = at as u64;
-        n += 1;
-        c = next(t, c);
-    }
-    Collected { count: n, next: c }
-}
-
-fn put_numbers(out: &mut [u8], o: usize, t: &[u8], items: &[u64]) -> usize
-    requires { ⌜ All (IsInteger (now t)) (now items) ⌝ }
-    ensures { λ r. ⌜ Wrote (now (out .entry)) o (indices (map (numberAt (now (t .entry))) (now (items .entry)))) (now (out .exit)) r ⌝ }
+fn put_numbers(out: &mut [u8], o: usize, items: &[u64]) -> usize
+    ensures { λ r. ⌜ Wrote (now (out .entry)) o (indices (now (items .entry))) (now (out .exit)) r ⌝ }
 {
     let mut a = o;
     let mut i: usize = 0;
     while i < items.len() {
-        a = wire::put_u64(out, a, token::integer_at(t, items[i] as usize));
+        a = wire::put_u64(out, a, items[i]);
         i += 1;
     }
     a
 }
 
-// The numbers of the Integers at these places, ascending.
+// These numbers, ascending.
 fn put_indices(out: &mut [u8], o: usize, t: &[u8], items: &mut [u64], spare: &mut [u64]) -> usize
-    requires { ⌜ Sortable (now t) (now items) (now spare) ⌝ }
-    ensures { λ r. ⌜ Wrote (now (out .entry)) o (encodeDeleted (sortBy ltb (map (numberAt (now (t .entry))) (now (items .entry))))) (now (out .exit)) r ⌝ }
+    requires { ⌜ Sortable (now items) (now spare) ⌝ }
+    ensures { λ r. ⌜ Wrote (now (out .entry)) o (encodeDeleted (sortBy ltb (now (items .entry)))) (now (out .exit)) r ⌝ }
 {
     let n = items.len();
     if n == 0 {
         return o;
     }
-    sorted::sort(t, Key::Index, items, spare);
+    sorted::sort(t, Key::Number, items, spare);
     let size = 12 + 8 * n;
     let a = wire::put_head(out, o, size as u16, 106, 0, 0);
-    put_numbers(out, a, t, items)
+    put_numbers(out, a, items)
 }
 
 fn put_deleted(
@@ -110,7 +87,7 @@ fn put_deleted(
     if kind_or_end(t, c) != kind::DELETED {
         return Emitted { out: o, next: c };
     }
-    let i = collect_integers(t, next(t, c), items);
+    let i = places::collect_numbers(t, next(t, c), items);
     let n = i.count;
     let a = put_indices(out, o, t, &mut items[..n], spare);
     let past = i.next;

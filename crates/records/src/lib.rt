@@ -91,7 +91,7 @@ fn put_base(out: &mut [u8], o: usize, t: &[u8], at: usize, dotted: bool) -> usiz
     put_plain(out, o, start, end, kind)
 }
 
-pub fn put_type(out: &mut [u8], o: usize, t: &[u8], p: TypePlaces) -> usize
+fn put_type(out: &mut [u8], o: usize, t: &[u8], p: TypePlaces) -> usize
     requires { ⌜ TypeHere (now t) p ⌝ }
     ensures { λ r. ⌜ Wrote (now (out .entry)) o (encodeType (typeOf (typeAt (now (t .entry)) p))) (now (out .exit)) r ⌝ }
 {

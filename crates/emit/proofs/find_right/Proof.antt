@@ -2,7 +2,8 @@ use mathlib.Core.Path.{refl, sym, _∙_}
 use native.Mathlib.Omega.{arith}
 use Prim.Native.Nat.{_-_}
 use lib.ListN.{length}
-use Rattle.emit.proofs.Walks.{Finding, found-end, found-right, find-on, stepped-less}
+use Rattle.places.proofs.Gathered.{stepped-less}
+use Rattle.emit.proofs.Walks.{Finding, found-end, found-right, find-on}
 use Rattle.emit.proofs.find_right.Statement.{statement}
 use Rattle.emit.proofs.find_right.Tie as tie
 
