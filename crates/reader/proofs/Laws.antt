@@ -1,8 +1,9 @@
 -- The reader's answers, from what the table decodes to, what its tokens parse to, and whether the answer fits.
-use Prim.Native.Nat.{ℕ, zero, suc, _+_, _*_, _≤_, _<_}
+use Prim.Native.Nat.{ℕ, zero, suc, _+_, _*_, _/_, _≤_, _<_}
 use mathlib.Core.Path.{_≡_, refl, ap, sym, _∙_}
 use mathlib.Core.Bool.{true, false}
 use mathlib.Core.List.{List, [], _∷_, _++_}
+use native.Mathlib.Nat.{zero-add}
 use native.Mathlib.Omega.{arith}
 use lib.Dec.{leb}
 use lib.ListN.{length, drop, length-append}
@@ -16,14 +17,14 @@ use Rattle.grammar.specs.Meaning.{schemaOf}
 use Rattle.grammar.specs.Reading.{parseSchema, parse, Outcome}
 use Rattle.grammar.specs.Answer.{readAnswer, answerOf, bytesOf, fitted}
 use Rattle.grammar.specs.Answer as reading
-use Rattle.wire.specs.Put.{Wrote}
-use Rattle.wire.proofs.Laws.{adv-is}
+use Rattle.wire.specs.Put.{Wrote, over}
+use Rattle.wire.proofs.Laws.{adv-is, over-fits}
 use Rattle.token.specs.Places.{tokensFrom}
 use Rattle.token.specs.Checked.{checked}
 use Rattle.token.specs.declared.Checked as token
 use Rattle.token.specs.declared.Checked.the-variants.{Fine}
 use Rattle.token.proofs.Walk.{fine, refusal}
-use Rattle.grammar.proofs.Count.{errors-length}
+use Rattle.grammar.proofs.Count.{errors-length, errors-at-most-tokens}
 use Rattle.grammar.proofs.Outcomes.{parse-schema, parse-errors, read-refused, read-tokens}
 use Rattle.reader.specs.Answers.{Answers, Checked, told}
 use Rattle.reader.specs.declared.Answer.the-variants.{Refused, Schema, Errors}
@@ -53,17 +54,32 @@ module _ (t o : Bytes) {ts : List Token} (d : decode t ≡ tokens ts) where
       leb (length (errorsBytes es)) (length o) ≡ true → (o′ ≡ errorsBytes es ++ drop (length (errorsBytes es)) o) × (r ≡ length (errorsBytes es)) → Answers t o o′ (Errors r)
   errors-written p e (b, n) = let a = fits t o d p e in record { answer = rw (a, n); buffer = rw a b }
 
--- judging into no buffer told a length: nothing exactly where there are no errors
-pub errors-none : (es : List Error) {e : Bytes} {need : ℕ} → Wrote [] 0 (errorsBytes es) e need → need ≡ 0 → es ≡ []
-errors-none [] w z = refl
-errors-none (x ∷ es) w z = absurd (omega (arith, w .place, adv-is (errorsBytes (x ∷ es)) 0 (omega arith), errors-length (x ∷ es)))
+-- a count of the errors is 0 exactly where there are none
+pub errors-none : (es : List Error) {n : ℕ} → n ≡ length es → n ≡ 0 → es ≡ []
+errors-none [] e z = refl
+errors-none (x ∷ es) e z = absurd (omega (arith, e, z))
 
-pub errors-some : (ts : List Token) {e : Bytes} {need : ℕ} → Wrote [] 0 (errorsBytes (parseSchema ts .errors)) e need → (need ≡ 0 → ⊥) → parse ts ≡ Outcome.errors (parseSchema ts .errors)
-errors-some ts w z = go (parseSchema ts .errors) refl
+pub errors-some : (ts : List Token) {n : ℕ} → n ≡ length (parseSchema ts .errors) → (n ≡ 0 → ⊥) → parse ts ≡ Outcome.errors (parseSchema ts .errors)
+errors-some ts e z = go (parseSchema ts .errors) refl
   where
     go : (es : List Error) → parseSchema ts .errors ≡ es → parse ts ≡ Outcome.errors (parseSchema ts .errors)
-    go [] q = absurd (z (omega (arith, w .place, adv-is (errorsBytes (parseSchema ts .errors)) 0 (omega arith), errors-length (parseSchema ts .errors), ap length q)))
+    go [] q = absurd (z (e ∙ ap length q))
     go (x ∷ es) q = parse-errors ts q ∙ ap Outcome.errors (sym q)
+
+-- where there are none, the buffer is as it was
+pub untouched : (es : List Error) {o e : Bytes} {need n : ℕ} → Wrote o 0 (errorsBytes es) e need → n ≡ length es → n ≡ 0 → e ≡ o
+unfolding errorsBytes over
+untouched es w l z = rw (errors-none es l z) at (w .bytes)
+
+-- each error has room where each token has room for one
+pub errors-fit : (ts : List Token) (n : ℕ) (o : Bytes) → length ts ≤ n → n ≤ length o / 14 → length (errorsBytes (parseSchema ts .errors)) ≤ length o
+errors-fit ts n o h k = omega (arith, errors-length (parseSchema ts .errors), errors-at-most-tokens ts)
+
+-- bytes that fit stand in front of what was there
+pub landed : (o bs : Bytes) {o′ : Bytes} {r : ℕ} → length o < 18446744073709551615 → length bs ≤ length o → Wrote o 0 bs o′ r → (o′ ≡ bs ++ drop (length bs) o) × (r ≡ length bs)
+landed o bs k f w =
+    let a = adv-is bs 0 (omega arith) in
+    (w .bytes ∙ over-fits bs o 0 (omega arith) (omega arith) ∙ rw zero-add, w .place ∙ omega arith)
 
 -- what the check told
 pub passed : {t : Bytes} {r : token.Checked} {n e : ℕ} → r ≡ checked t → r ≡ Fine n e → Checked t e × (length (tokensFrom t 0) ≡ n)

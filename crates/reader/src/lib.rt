@@ -1,6 +1,6 @@
 // Reading a token table into a lent buffer: a schema table, an error list, or a refusal.
 ghost use Prim.Native.Nat.{_≤_};
-ghost use lib.ListN.{length};
+ghost use lib.ListN.{length, drop};
 ghost use Rattle.token.specs.Places.{tokensFrom};
 ghost use Rattle.reader.specs.Answers.{Answers, Checked, Ready, Clean};
 
@@ -11,10 +11,20 @@ pub enum Answer {
     Errors(usize),
 }
 
+// The token table and the place that reading has come to.
+pub struct Reader<'a> {
+    pub table: &'a [u8],
+    pub at: usize,
+}
+
+// A schema table is at most twice as long as the token table: where that is room enough, nothing is measured.
 fn read_schema(t: &[u8], out: &mut [u8], items: &mut [u64], spare: &mut [u64]) -> Answer
     requires { ⌜ Clean (now t) (now items) (now spare) ⌝ }
     ensures { λ r. ⌜ Answers (now (t .entry)) (now (out .entry)) (now (out .exit)) r ⌝ }
 {
+    if t.len() <= out.len() / 2 {
+        return Answer::Schema(emit::emit(out, 0, t, items, spare));
+    }
     let need = emit::emit(&mut out[..0], 0, t, items, spare);
     if out.len() < need {
         return Answer::Refused(8, 0);
@@ -22,19 +32,35 @@ fn read_schema(t: &[u8], out: &mut [u8], items: &mut [u64], spare: &mut [u64]) -
     Answer::Schema(emit::emit(out, 0, t, items, spare))
 }
 
-// Judging into no buffer tells how long the error list is: nothing where there is no error.
+// Collecting into no buffer tells how many errors there are, and how long their list is.
+fn read_measured(t: &[u8], out: &mut [u8], end: u32, items: &mut [u64], spare: &mut [u64]) -> Answer
+    requires { ⌜ Ready (now t) end (now items) (now spare) ⌝ }
+    ensures { λ r. ⌜ Answers (now (t .entry)) (now (out .entry)) (now (out .exit)) r ⌝ }
+{
+    let needed = collector::collect(&mut out[..0], t, end, items, spare);
+    if needed.count == 0 {
+        return read_schema(t, out, items, spare);
+    }
+    if out.len() < needed.length {
+        return Answer::Refused(8, 0);
+    }
+    let list = collector::collect(out, t, end, items, spare);
+    Answer::Errors(list.length)
+}
+
+// There are no more errors than tokens, for each of which the lists have room: where there is room for so many errors, they are written at once.
 fn read_with(t: &[u8], out: &mut [u8], end: u32, items: &mut [u64], spare: &mut [u64]) -> Answer
     requires { ⌜ Ready (now t) end (now items) (now spare) ⌝ }
     ensures { λ r. ⌜ Answers (now (t .entry)) (now (out .entry)) (now (out .exit)) r ⌝ }
 {
-    let need = judge::judge(&mut out[..0], 0, t, end, items, spare);
-    if need == 0 {
+    if out.len() / 14 < items.len() {
+        return read_measured(t, out, end, items, spare);
+    }
+    let errors = collector::collect(out, t, end, items, spare);
+    if errors.count == 0 {
         return read_schema(t, out, items, spare);
     }
-    if out.len() < need {
-        return Answer::Refused(8, 0);
-    }
-    Answer::Errors(judge::judge(out, 0, t, end, items, spare))
+    Answer::Errors(errors.length)
 }
 
 // The lists that sorting needs, as long as the table wants them: a small table doesn't pay for a large one's.
@@ -65,12 +91,15 @@ fn read_large(t: &[u8], out: &mut [u8], end: u32) -> Answer
     read_with(t, out, end, &mut items, &mut spare)
 }
 
-pub fn read(t: &[u8], out: &mut [u8]) -> Answer
-    ensures { λ r. ⌜ Answers (now (t .entry)) (now (out .entry)) (now (out .exit)) r ⌝ }
+// The reading on from a place of the table.
+fn read_from(table: &[u8], at: usize, out: &mut [u8]) -> Answer
+    requires { ⌜ at ≤ length (now table) ⌝ }
+    ensures { λ r. ⌜ Answers (drop at (now (table .entry))) (now (out .entry)) (now (out .exit)) r ⌝ }
 {
+    let t = &table[at..];
     let checked = token::check(t);
     match checked {
-        token::Checked::Refused(number, at) => Answer::Refused(number, at),
+        token::Checked::Refused(number, offset) => Answer::Refused(number, offset),
         token::Checked::Fine(count, end) => {
             if count <= 64 {
                 return read_small(t, out, end);
@@ -81,4 +110,12 @@ pub fn read(t: &[u8], out: &mut [u8]) -> Answer
             read_large(t, out, end)
         }
     }
+}
+
+// A reader at the table's first byte.
+pub fn read(t: &[u8], out: &mut [u8]) -> Answer
+    ensures { λ r. ⌜ Answers (now (t .entry)) (now (out .entry)) (now (out .exit)) r ⌝ }
+{
+    let r = Reader { table: t, at: 0 };
+    read_from(r.table, r.at, out)
 }

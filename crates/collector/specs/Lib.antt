@@ -1,0 +1,2 @@
+-- What collecting the errors of a table promises.
+pub mod Collected

@@ -1,0 +1,44 @@
+-- `reader::read_from` meets its contract: the check refuses, or the lists are made as long as the table wants them.
+use native.Mathlib.Omega.{arith}
+use borrow.Author.Needs.{needs}
+use denote.Ref.{now}
+use Rattle.token.proofs.Laws.{part-from}
+use Rattle.token.proofs.Walk.{wf-few}
+use Rattle.reader.proofs.Laws.{passed, stopped}
+use Rattle.reader.proofs.read_from.Statement.{statement}
+use Rattle.reader.proofs.read_from.Tie as tie
+
+read-small-requires : tie.Need-read-small-requires
+read-small-requires c κs = let p = passed (c .before .before .before .before .before .check .ensures) (c .before .before .before .checked2 .given .1) in (p .0, omega (arith, p .1))
+
+returns : tie.Need-returns
+returns c =
+    let a = c .before .before .before .before .before .before .before .before .before .before .before .before .args in
+    rw (part-from (now (a .table)) (a .at)) at (c .before .before .read-small .ensures)
+
+read-medium-requires : tie.Need-read-medium-requires
+read-medium-requires c κs = let p = passed (c .before .before .before .before .before .before .check .ensures) (c .before .before .before .before .checked2 .given .1) in (p .0, omega (arith, p .1))
+
+returns-2 : tie.Need-returns-2
+returns-2 c =
+    let a = c .before .before .before .before .before .before .before .before .before .before .before .before .before .args in
+    rw (part-from (now (a .table)) (a .at)) at (c .before .before .read-medium .ensures)
+
+read-large-requires : tie.Need-read-large-requires
+read-large-requires c κs = let p = passed (c .before .before .before .before .before .before .check .ensures) (c .before .before .before .before .checked2 .given .1) in (p .0, wf-few (p .0 .wf))
+
+returns-3 : tie.Need-returns-3
+returns-3 c =
+    let a = c .before .before .before .before .before .before .before .args in
+    rw (part-from (now (a .table)) (a .at)) at (stopped (now (a .out)) (c .before .before .before .check .ensures) (c .before .checked .given .1))
+
+returns-4 : tie.Need-returns-4
+returns-4 c =
+    let a = c .before .before .before .before .before .before .before .before .before .before .before .before .before .args in
+    rw (part-from (now (a .table)) (a .at)) at (c .before .before .read-large .ensures)
+
+pub read-from-spec : {M : Type 1} → statement M
+read-from-spec =
+    tie.close
+    (tie.spec (λ c. search needs) (λ c. search needs) (λ c. search needs) (λ c κs. search needs) (λ c. search needs) (λ c. search needs) read-small-requires (λ c. search needs) returns
+    read-medium-requires (λ c. search needs) returns-2 read-large-requires returns-3 (λ c. search needs) returns-4)
