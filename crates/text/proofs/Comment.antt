@@ -12,9 +12,10 @@ use lib.Seq.{drop-drop}
 use Rattle.wire.specs.Bytes.{Bytes}
 use Rattle.wire.specs.Le.{leAt, u16At}
 use Rattle.wire.specs.Put.{Wrote}
-use Rattle.wire.proofs.Laws.{then, Rest, rest-all, rest-step, rest-none, wrote-length}
+use Rattle.wire.proofs.Laws.{then, wrote-none, Rest, rest-all, rest-step, rest-none, wrote-length}
 use Rattle.token.specs.Payload.{isParagraph, paragraphOf, afterParagraph, areParagraphs, paragraphsIn, paragraphsOf}
 use Rattle.token.proofs.Laws.{Paging, pageEnd, paged-out, paged-step}
+use Rattle.schema.specs.Decode.{commentOf}
 use Rattle.text.specs.Text.{paragraphText, paragraphsText, commentText, mark}
 
 both : (a b : Bool) → true ≡ (a && b) → (a ≡ true) × (b ≡ true)
@@ -79,3 +80,10 @@ module _ {o₀ : Bytes} {a₀ : ℕ} {indentation p o : Bytes} {a i : ℕ} (g : 
       none : (n : ℕ) → paragraphsText indentation (not (eqb i 0)) (paragraphsIn n []) ≡ []
       none zero = refl
       none (suc n) = refl
+
+-- a count and nothing after it
+pub no-comment : (indentation p : Bytes) {o : Bytes} {at : ℕ} → length p ≡ 2 → Wrote o at (commentText indentation (commentOf p)) o at
+unfolding paragraphsOf
+no-comment indentation p e =
+    let h : length p ≤ 2 = omega arith in
+    rw (drop-of-length-le p h) wrote-none

@@ -6,3 +6,4 @@ pub mod Comment
 pub mod Cases
 pub mod Parts
 pub mod Indices
+pub mod Short

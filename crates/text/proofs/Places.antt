@@ -2,7 +2,7 @@
 use Prim.Native.Nat.{ℕ, suc, zero-le, _+_, _-_, _≤_, _<_}
 use mathlib.Core.Path.{_≡_, refl, sym, ap, _∙_}
 use mathlib.Core.Bool.{Bool, true, false}
-use mathlib.Core.List.{List, [], _∷_, _++_, flatMap}
+use mathlib.Core.List.{List, [], _∷_, _++_, append-nil, flatMap}
 use native.Mathlib.Nat.{zero-add, add-zero}
 use native.Mathlib.Numerals.{add-one}
 use native.Mathlib.Omega.{arith}
@@ -15,7 +15,7 @@ use Rattle.text.specs.Wrap.{wordsOf, linesFrom, wrap, wordEnd}
 use Rattle.wire.specs.Put.{Wrote}
 use Rattle.wire.proofs.Laws.{Rest, rest-all, rest-step, rest-none, wrote-length}
 use Rattle.text.specs.Text.{lineText, paragraphText}
-use Rattle.text.proofs.Wrap.{line-takes, line-leaves}
+use Rattle.text.proofs.Wrap.{line-takes, line-leaves, wrap-one}
 
 -- the search for the end of a word
 pub end-here : (s : Bytes) (j : ℕ) → j < length s → getD s j 0 ≡ 32 → wordEnd s j ≡ j
@@ -157,3 +157,8 @@ module _ {o₀ : Bytes} {a₀ : ℕ} {indentation s : Bytes} {width : ℕ} {o : 
   pub wrapping-done : {o′ : Bytes} {a′ : ℕ} → length s ≤ end → Wrote o a (lineText indentation (take (length s - start) (drop start s))) o′ a′ → Wrote o₀ a₀ (paragraphText indentation s) o′ a′
   unfolding flatMap
   wrapping-done h w = rest-none (rest-step w (g .left) (rw (lines-last width s start end (g .ends) h))) refl
+
+-- a paragraph that fits is one line
+pub one-line : (indentation s : Bytes) {o : Bytes} {a : ℕ} {o′ : Bytes} {r : ℕ} → length s ≤ 77 - length indentation → Wrote o a (lineText indentation s) o′ r → Wrote o a (paragraphText indentation s) o′ r
+unfolding paragraphText flatMap
+one-line indentation s h w = rw (wrap-one (77 - length indentation) s h, append-nil) w

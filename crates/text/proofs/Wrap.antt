@@ -49,7 +49,7 @@ pub line-leaves : (width : ℕ) (line word : Bytes) (words : List Bytes) → wid
 line-leaves width line word words h = rw (lt-leb (length line + 1 + length word) width h, linesFrom)
 
 -- so what both keep holds of the lines
-lines-keep : (width : ℕ) (P : Bytes → List Bytes → List Bytes → Type 0)
+pub lines-keep : (width : ℕ) (P : Bytes → List Bytes → List Bytes → Type 0)
     → ((line : Bytes) → P line [] (line ∷ []))
     → ((line word : Bytes) (words ls : List Bytes) → length line + 1 + length word ≤ width → P (line ++ (32 ∷ word)) words ls → P line (word ∷ words) ls)
     → ((line word : Bytes) (words ls : List Bytes) → width < length line + 1 + length word → P word words ls → P line (word ∷ words) (line ∷ ls))

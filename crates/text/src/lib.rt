@@ -3,7 +3,7 @@ ghost use mathlib.Core.Path.{_≡_};
 ghost use mathlib.Core.Bool.{true};
 ghost use mathlib.Core.List.{flatMap};
 ghost use Prim.Native.Nat.{_≤_, _%_};
-ghost use lib.ListN.{length};
+ghost use lib.ListN.{length, drop};
 ghost use Rattle.wire.specs.Put.{Wrote};
 ghost use Rattle.token.specs.Payload.{areParagraphs, paragraphsOf};
 ghost use Rattle.schema.specs.Payload.{isDeclaration, isDeleted, nameOf, afterName, indicesOf};
@@ -37,7 +37,7 @@ fn put_line(out: &mut [u8], at: usize, indentation: &[u8], line: &[u8]) -> usize
 }
 
 // The lines are parts of the paragraph: a line ends where the next word would not fit.
-fn put_paragraph(out: &mut [u8], at: usize, indentation: &[u8], s: &[u8]) -> usize
+fn put_lines(out: &mut [u8], at: usize, indentation: &[u8], s: &[u8]) -> usize
     requires { ⌜ length (now indentation) ≤ 77 ⌝ }
     ensures { λ r. ⌜ Wrote (now (out .entry)) at (paragraphText (now (indentation .entry)) (now (s .entry))) (now (out .exit)) r ⌝ }
 {
@@ -55,6 +55,17 @@ fn put_paragraph(out: &mut [u8], at: usize, indentation: &[u8], s: &[u8]) -> usi
         }
     }
     put_line(out, a, indentation, &s[start..])
+}
+
+// A paragraph that fits one line is not searched for words.
+fn put_paragraph(out: &mut [u8], at: usize, indentation: &[u8], s: &[u8]) -> usize
+    requires { ⌜ length (now indentation) ≤ 77 ⌝ }
+    ensures { λ r. ⌜ Wrote (now (out .entry)) at (paragraphText (now (indentation .entry)) (now (s .entry))) (now (out .exit)) r ⌝ }
+{
+    if s.len() <= MAX_COLUMNS - indentation.len() - 2 {
+        return put_line(out, at, indentation, s);
+    }
+    put_lines(out, at, indentation, s)
 }
 
 // A line of `#` before a paragraph, where it comes later than another.
@@ -83,6 +94,17 @@ pub fn put_comment(out: &mut [u8], at: usize, indentation: &[u8], ps: &[u8]) -> 
         a = put_paragraph(out, m, indentation, &ps[start..end]);
     }
     a
+}
+
+// The comment of a declaration or a field, after its count. Most have none: a test here costs less than the call.
+fn put_counted(out: &mut [u8], at: usize, indentation: &[u8], p: &[u8]) -> usize
+    requires { ⌜ (length (now indentation) ≤ 77) × (2 ≤ length (now p)) × (areParagraphs 32 (drop 2 (now p)) ≡ true) ⌝ }
+    ensures { λ r. ⌜ Wrote (now (out .entry)) at (commentText (now (indentation .entry)) (commentOf (now (p .entry)))) (now (out .exit)) r ⌝ }
+{
+    if p.len() == 2 {
+        return at;
+    }
+    put_comment(out, at, indentation, &p[2..])
 }
 
 pub fn put_blank(out: &mut [u8], at: usize, b: bool) -> usize
@@ -173,7 +195,7 @@ pub fn put_field_name(out: &mut [u8], at: usize, rule: u8, q: &[u8]) -> usize
     ensures { λ r. ⌜ Wrote (now (out .entry)) at (fieldName (commentOf (afterName (now (q .entry)))) (ruleOf rule) (nameOf (now (q .entry)))) (now (out .exit)) r ⌝ }
 {
     let rest = schema::after_name(q);
-    let a = put_comment(out, at, b"    ", &rest[2..]);
+    let a = put_counted(out, at, b"    ", rest);
     let b = wire::put_slice(out, a, b"    ");
     let c = put_rule(out, b, rule);
     identifier::put_snake(out, c, schema::name_of(q))
@@ -226,7 +248,7 @@ pub fn put_head(out: &mut [u8], at: usize, kind: u16, q: &[u8]) -> usize
     ensures { λ r. ⌜ Wrote (now (out .entry)) at (headText (commentOf (afterName (now (q .entry)))) (variantOf kind) (nameOf (now (q .entry)))) (now (out .exit)) r ⌝ }
 {
     let rest = schema::after_name(q);
-    let a = put_comment(out, at, b"", &rest[2..]);
+    let a = put_counted(out, at, b"", rest);
     let b = put_keyword(out, a, kind);
     let c = identifier::put_pascal(out, b, schema::name_of(q));
     wire::put_slice(out, c, b" {\n")

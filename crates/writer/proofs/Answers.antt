@@ -1,17 +1,19 @@
 -- The text of a whole table, and the answers of writing it.
-use Prim.Native.Nat.{ℕ, _-_, _<_, _≤_}
+use Prim.Native.Nat.{ℕ, suc, _+_, _-_, _/_, _<_, _≤_, min}
 use mathlib.Core.Path.{_≡_, refl, sym, ap, _∙_}
 use mathlib.Core.Bool.{Bool, true, false, not}
 use mathlib.Core.Option.{Option, none, some}
-use mathlib.Core.List.{[], _++_}
+use mathlib.Core.List.{[], _∷_, _++_}
+use native.Mathlib.Nat.{zero-add}
 use native.Mathlib.Omega.{arith}
-use borrow.Author.Tests.{le-ltb}
+use borrow.Author.Tests.{le-leb, le-ltb}
 use lib.Dec.{leb, ltb, eqb}
-use lib.ListN.{length}
+use lib.ListN.{length, getD}
 use Rattle.wire.specs.Bytes.{Bytes}
 use Rattle.wire.specs.Pick.{pick}
 use Rattle.wire.specs.Put.{Wrote, laid}
-use Rattle.wire.proofs.Laws.{then, nothing, too-long, fits, written}
+use Rattle.wire.proofs.Laws.{then, adv-is, over-fits, nothing, too-long, fits, written}
+use Rattle.wire.proofs.Numbers.{AllBytes}
 use Rattle.schema.specs.Ast.{Schema}
 use Rattle.schema.specs.Table.{recordsOf}
 use Rattle.schema.specs.Decode.{declarationsOf, schemaOf, decodeSchema}
@@ -20,6 +22,7 @@ use Rattle.schema.specs.Checked.{answerOf, checked}
 use Rattle.schema.specs.declared.Checked.the-variants as check
 use Rattle.schema.proofs.Verdict.{fine}
 use Rattle.text.specs.Text.{isEmpty, importsText, declarationsText, textOf}
+use Rattle.text.proofs.Short.{table-short}
 use Rattle.writer.specs.Steps.{Commented, Imported}
 use Rattle.writer.specs.Written.{answerTo, leftBy, Writes}
 use Rattle.writer.specs.declared.Written.the-variants as write
@@ -60,3 +63,22 @@ module _ (t o : Bytes) {e : Bytes} {need : ℕ} (p : checked t ≡ check.Fine) (
       let l = fits o m k h in
       let v = written o m k h w in
       record { answer = rw (le-ltb 131072 (length t) (f .small), f .decodes, l, v .1); buffer = rw (le-ltb 131072 (length t) (f .small), f .decodes, l) (v .0) }
+
+pub all-bytes : (bs : Bytes) → ((i : ℕ) → getD bs i 0 < 256) → AllBytes bs
+all-bytes [] h = tt
+all-bytes (b ∷ bs) h = (h 0, all-bytes bs λ i. h (suc i))
+
+-- not measured, where four bytes for each byte of the table fit
+pub surely-fits : (t o : Bytes) {o′ : Bytes} {r : ℕ} → checked t ≡ check.Fine → AllBytes t → length o ≤ 18446744073709551615 → length t ≤ length o / 4 → Wrote o 0 (textOf (schemaOf (recordsOf t))) o′ r
+    → Writes t o o′ (write.Text r)
+unfolding laid pick
+surely-fits t o p a k h w =
+    let f = fine t p in
+    let text = textOf (schemaOf (recordsOf t)) in
+    let s : length text ≤ length o = omega (arith, table-short t a _ (f .decodes)) in
+    let v = w .place ∙ adv-is text 0 (omega arith) in
+    let n : min (0 + length text) 18446744073709551615 ≡ length text = omega arith in
+    record {
+      answer = rw (le-ltb 131072 (length t) (f .small), f .decodes, le-leb (length text) (length o) s, v, n);
+      buffer = rw (le-ltb 131072 (length t) (f .small), f .decodes, le-leb (length text) (length o) s) (w .bytes ∙ over-fits text o 0 (omega arith) k ∙ rw zero-add);
+    }

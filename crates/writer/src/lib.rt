@@ -230,7 +230,7 @@ pub enum Written {
     Text(usize),
 }
 
-fn write_table(t: &[u8], out: &mut [u8]) -> Written
+fn write_measured(t: &[u8], out: &mut [u8]) -> Written
     requires { ⌜ checked (now t) ≡ Fine ⌝ }
     ensures { λ r. ⌜ Writes (now (t .entry)) (now (out .entry)) (now (out .exit)) r ⌝ }
 {
@@ -239,6 +239,17 @@ fn write_table(t: &[u8], out: &mut [u8]) -> Written
         return Written::Refused(8, 0);
     }
     Written::Text(put_schema(out, 0, t))
+}
+
+// A text has at most four bytes for each byte of its table: it is measured first only where those might not fit.
+fn write_table(t: &[u8], out: &mut [u8]) -> Written
+    requires { ⌜ checked (now t) ≡ Fine ⌝ }
+    ensures { λ r. ⌜ Writes (now (t .entry)) (now (out .entry)) (now (out .exit)) r ⌝ }
+{
+    if t.len() <= out.len() / 4 {
+        return Written::Text(put_schema(out, 0, t));
+    }
+    write_measured(t, out)
 }
 
 // The canonical text of a schema table, at the start of the buffer.

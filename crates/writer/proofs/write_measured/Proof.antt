@@ -1,0 +1,36 @@
+-- `writer::write_measured` meets its contract.
+use borrow.Author.Needs.{needs}
+use native.Mathlib.Omega.{arith}
+use mathlib.Core.Path.{ap, _∙_}
+use denote.Ref.{now}
+use lib.ListN.{length}
+use Rattle.wire.proofs.Laws.{nothing, wrote-length}
+use Rattle.schema.proofs.Verdict.{fine}
+use Rattle.writer.proofs.Answers.{too-small, large-enough}
+use Rattle.writer.proofs.write_measured.Statement.{statement}
+use Rattle.writer.proofs.write_measured.Tie as tie
+
+put-schema-requires : tie.Need-put-schema-requires
+put-schema-requires c κs = fine _ (c .before .before .before .pre) .right
+
+returns : tie.Need-returns
+returns c = too-small _ (now (c .before .before .before .before .before .before .before .args .out)) (c .before .before .before .before .before .before .before .pre) (c .before .before .before .put-schema .ensures) (omega arith) (c .if1 .taken)
+
+put-schema-requires-2 : tie.Need-put-schema-requires-2
+put-schema-requires-2 c κs = fine _ (c .before .before .before .before .before .before .before .before .pre) .right
+
+returns-2 : tie.Need-returns-2
+returns-2 c = large-enough _ (now (c .before .before .before .before .before .before .before .before .before .before .before .args .out)) (c .before .before .before .before .before .before .before .before .before .before .before .pre) (c .before .before .before .before .before .before .before .put-schema .ensures) (omega arith) (c .before .before .before .before .if1 .left) (c .before .before .put-schema2 .ensures)
+
+pub write-measured-spec : {M : Type 1} → statement M
+write-measured-spec =
+    tie.close
+    (tie.spec
+    (λ c. search needs)
+    (λ c. search needs)
+    put-schema-requires
+    (λ c. ap length (nothing (now (c .before .before .before .before .before .before .before .args .out)) (c .before .before .before .put-schema .ensures)))
+    returns
+    put-schema-requires-2
+    (λ c. wrote-length (c .before .before .put-schema2 .ensures) ∙ ap length (nothing (now (c .before .before .before .before .before .before .before .before .before .before .before .args .out)) (c .before .before .before .before .before .before .before .put-schema .ensures)))
+    returns-2)
