@@ -1,3 +1,2 @@
 -- The marked cases of document 01.
-pub mod Printed
 pub mod Table

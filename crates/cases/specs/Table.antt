@@ -7,7 +7,7 @@ use Rattle.identifier.specs.Forms.{snakeOf, pascalOf}
 use Rattle.identifier.specs.Survive.{survives as doesSurvive}
 use Rattle.token.specs.Table.{encodeTokens}
 use Rattle.grammar.specs.Quoted.{tokensOf}
-use Rattle.cases.specs.Printed.{printed}
+use Rattle.printed.specs.Printed.{printed}
 
 -- what typefmt prints of a text's tokens; a name's Pascal and snake form; whether a name survives printing
 pub data Asked : Type 0 where

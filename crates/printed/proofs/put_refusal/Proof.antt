@@ -1,0 +1,20 @@
+-- `printed::put_refusal` meets its contract.
+use borrow.Author.Needs.{needs}
+use Rattle.wire.proofs.Laws.{then, wrote-length}
+use Rattle.printed.specs.Printed.{refusalLine}
+use Rattle.printed.proofs.put_refusal.Statement.{statement}
+use Rattle.printed.proofs.put_refusal.Tie as tie
+
+returns : tie.Need-returns
+unfolding refusalLine
+returns c =
+    then
+    (then
+    (then (c .before .before .before .before .before .before .before .before .before .before .before .before .before .before .put-byte .ensures) (c .before .before .before .before .before .before .before .before .before .before .put-spaced .ensures))
+    (c .before .before .before .before .before .before .put-spaced2 .ensures))
+    (c .before .before .put-byte2 .ensures)
+
+pub put-refusal-spec : {M : Type 1} → statement M
+put-refusal-spec =
+    tie.close
+    (tie.spec (λ c κs. search needs) (λ c κs. search needs) (λ c κs. search needs) (λ c κs. search needs) (λ c. wrote-length (returns c)) returns)

@@ -1,0 +1,22 @@
+-- `printed::put_schema` meets its contract: the writer was lent the front of the buffer.
+use native.Mathlib.Omega.{arith}
+use lib.ListN.{length-take}
+use borrow.Author.Needs.{needs}
+use denote.Ref.{now}
+use Rattle.wire.proofs.Laws.{wrote-length}
+use Rattle.printed.proofs.Texts.{refused-line, written-text}
+use Rattle.printed.proofs.put_schema.Statement.{statement}
+use Rattle.printed.proofs.put_schema.Tie as tie
+
+returns : tie.Need-returns
+returns c =
+    refused-line (now (c .before .before .before .before .before .before .before .before .before .before .before .before .before .args .out)) (c .before .before .before .before .before .before .before .before .before .before .before .before .before .pre) (c .before .before .before .before .before .before .before .before .before .write .ensures) (c .before .before .before .before .before .number .given .1) (c .before .before .put-refusal .ensures)
+
+returns-2 : tie.Need-returns-2
+returns-2 c = written-text (now (c .before .before .before .before .before .before .before .before .before .args .out)) (c .before .before .before .before .before .before .before .before .before .pre) (c .before .before .before .before .before .write .ensures) (omega arith) (c .before .n .given .1)
+
+pub put-schema-spec : {M : Type 1} → statement M
+put-schema-spec =
+    tie.close
+    (tie.spec (λ c. search needs) (λ c. simp length-take (omega arith)) (λ c κs. search needs) (λ c. search needs) (λ c κs. search needs)
+    (λ c. search needs) (λ c. wrote-length (returns c)) returns (λ c. wrote-length (returns-2 c)) returns-2)

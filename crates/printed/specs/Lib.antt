@@ -1,0 +1,3 @@
+-- The definition of what typefmt prints.
+pub mod Printed
+pub mod Errors
