@@ -1,0 +1,2 @@
+-- What a promise comes to.
+pub mod Outcome
