@@ -1,14 +1,15 @@
 #!/usr/bin/env python3
 """strip.py OUT.rs CRATE..: the Rattle source of the crates without its contracts, a Rust module for each crate, for rustc.
 
-The crates come in the order of their dependencies. What the prover showed stays true of the stripped source: only `ghost`
+The crates that these need, by crates.txt, come along. What the prover showed stays true of the stripped source: only `ghost`
 lines, `requires` and `ensures` are taken out, and plain data is made `Copy`. Run it from anywhere.
 """
 import pathlib
 import re
 import sys
 
-CRATES = pathlib.Path(__file__).resolve().parent.parent / "crates"
+ROOT = pathlib.Path(__file__).resolve().parent.parent
+CRATES = ROOT / "crates"
 CLAUSE = re.compile(r"^[ \t]*(requires|ensures|ghost)\b[^\n{]*\{", re.M)
 
 
@@ -43,8 +44,22 @@ def module(path, crates):
     return re.sub(r"^(pub )?mod (\w+);\n", inner, text, flags=re.M)
 
 
+def with_dependencies(wanted):
+    lines = (line.split(":") for line in (ROOT / "crates.txt").read_text().splitlines() if line)
+    needs = {name: rest.split() for name, rest in lines}
+    found = []
+    def visit(name):
+        if name not in found:
+            for need in needs[name]:
+                visit(need)
+            found.append(name)
+    for name in wanted:
+        visit(name)
+    return found
+
+
 def main():
-    out, crates = sys.argv[1], sys.argv[2:]
+    out, crates = sys.argv[1], with_dependencies(sys.argv[2:])
     text = "#![allow(dead_code, unused_imports)]\n"
     for crate in crates:
         text += f"pub mod {crate} {{\n{module(CRATES / crate / 'src' / 'lib.rt', crates)}}}\n"

@@ -1,5 +1,10 @@
 //! Answers on one line each.
 
+pub mod boundaries;
+pub mod kept;
+pub mod lists;
+pub mod rooms;
+
 use judge::{Answer, ErrorRecord};
 
 /// Bytes in hexadecimal, `-` for none.

@@ -84,7 +84,7 @@ fn compare_write(side: &Side, table: &[u8], due: Result<&[u8], Refusal>) -> Resu
 }
 
 /// With room to spare, with room just enough, and with one byte less.
-fn all_rooms<A: Copy + PartialEq + std::fmt::Debug>(
+pub fn all_rooms<A: Copy + PartialEq + std::fmt::Debug>(
     name: &'static str,
     expected: A,
     short: A,
@@ -99,7 +99,7 @@ fn all_rooms<A: Copy + PartialEq + std::fmt::Debug>(
     Ok(())
 }
 
-fn one_call<A: Copy + PartialEq + std::fmt::Debug>(
+pub fn one_call<A: Copy + PartialEq + std::fmt::Debug>(
     name: &'static str,
     room: usize,
     expected: A,

@@ -4,17 +4,20 @@
 //!     diff SIDE short                 all short lists
 //!     diff SIDE special               the special tables
 //!     diff SIDE file FILE..           tables in files
+//!     diff SIDE lists ROOT            the lists kept under ROOT/crates
+//!     diff SIDE names SEED COUNT      random names and namespaces
 //!
 //! SIDE is `ours`, `paper` (document 01 read literally), `judge` (the judge
-//! itself) or one of the planted faults in side.rs. THREADS in the environment
+//! itself) or one of the planted faults in side.rs and names.rs. THREADS in the environment
 //! sets the number of threads, 2 without.
 
 use diff::{
     compare::readable,
+    lists, names,
     run::{Counts, Found, Plan, Work, run},
     side::{Side, named},
 };
-use std::{env, fs, process::ExitCode, time::Instant};
+use std::{env, fs, path::Path, process::ExitCode, time::Instant};
 use tables::{
     short::{Family, families},
     special,
@@ -29,6 +32,9 @@ fn main() -> ExitCode {
     let [side, task, rest @ ..] = &words[..] else {
         return complain("give a side and a task, as in: diff paper seeded 1 100000");
     };
+    if let ("names", [seed, count]) = (*task, rest) {
+        return on_names(side, seed, count);
+    }
     let Some(side) = named(side) else {
         return complain("no such side, or built without it");
     };
@@ -38,24 +44,41 @@ fn main() -> ExitCode {
             (Ok(seed), Ok(count)) => report(side, "seeded", Work::Seeded { seed, count }),
             _ => return complain("seed and count are numbers"),
         },
-        ("short", []) => {
-            let passes = |family: &Family| report(side, family.name, Work::Short(family));
-            let passed: Vec<bool> = families().iter().map(passes).collect();
-            !passed.contains(&false)
-        }
+        ("short", []) => all_short(side),
         ("special", []) => {
             let tables = Work::Tables(&owned(special::all()));
             let schemas = Work::Schemas(&owned(special::schemas()));
             report(side, "special", tables) & report(side, "special schemas", schemas)
         }
+        ("lists", [root]) => match lists::run(side, Path::new(root)) {
+            Ok(passed) => passed,
+            Err(why) => return complain(&why.to_string()),
+        },
         ("file", files) => match read_files(files) {
             Ok(tables) => report(side, "file", Work::Tables(&tables)),
             Err(why) => return complain(&why),
         },
-        _ => return complain("the tasks are: seeded SEED COUNT, short, special, file FILE.."),
+        _ => return complain("the tasks are: seeded, short, special, file, lists, names"),
     };
     eprintln!("took {:.1} s", started.elapsed().as_secs_f64());
     if passed { ExitCode::SUCCESS } else { ExitCode::FAILURE }
+}
+
+fn all_short(side: Side) -> bool {
+    let passes = |family: &Family| report(side, family.name, Work::Short(family));
+    let passed: Vec<bool> = families().iter().map(passes).collect();
+    !passed.contains(&false)
+}
+
+fn on_names(side: &str, seed: &str, count: &str) -> ExitCode {
+    let Some(side) = names::named(side) else {
+        return complain("no such side, or built without it");
+    };
+    match (seed.parse(), count.parse()) {
+        (Ok(seed), Ok(count)) if names::run(side, seed, count) => ExitCode::SUCCESS,
+        (Ok(_), Ok(_)) => ExitCode::FAILURE,
+        _ => complain("seed and count are numbers"),
+    }
 }
 
 fn owned(tables: Vec<(&'static str, Vec<u8>)>) -> Vec<(String, Vec<u8>)> {

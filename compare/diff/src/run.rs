@@ -18,6 +18,9 @@ use tables::{
     token::table,
 };
 
+/// Cases between two lines about how far a long run has come.
+const PROGRESS: u64 = 250_000;
+
 /// How often each kind of answer came.
 #[derive(Clone, Default)]
 pub struct Counts {
@@ -166,6 +169,9 @@ fn share(plan: &Plan, first: usize, found_by_all: &AtomicUsize) -> Outcome {
     let mut outcome = Outcome::default();
     let mut number = first as u64;
     while number < plan.work.count() && found_by_all.load(Ordering::Relaxed) < plan.most_found {
+        if number > 0 && number.is_multiple_of(PROGRESS) {
+            eprintln!("{number} cases, {} found", found_by_all.load(Ordering::Relaxed));
+        }
         let before = outcome.found.len();
         one_case(plan, number, &mut outcome);
         found_by_all.fetch_add(outcome.found.len() - before, Ordering::Relaxed);

@@ -6,6 +6,7 @@ pub mod grammar;
 pub mod listing;
 pub mod mix;
 pub mod mutate;
+pub mod naming;
 pub mod places;
 pub mod rng;
 pub mod short;

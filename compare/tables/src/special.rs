@@ -1,6 +1,6 @@
 //! Tables built for one purpose each: the limits, and the slowest inputs.
 
-use crate::{places::lay_plainly, token::*};
+use crate::{places::lay_plainly, rng::Rng, token::*};
 
 /// Every special table with its name.
 pub fn all() -> Vec<(&'static str, Vec<u8>)> {
@@ -22,6 +22,29 @@ pub fn all() -> Vec<(&'static str, Vec<u8>)> {
         ("bytes-65537", finish(bytes_total(65_537))),
         ("long-comment", finish(long_comment())),
     ]
+}
+
+/// What `all` has in reverse order, in a random order. They stand apart, since
+/// the seeded cases draw from `all`.
+pub fn shuffled() -> Vec<(&'static str, Vec<u8>)> {
+    let mut numbers: Vec<usize> = (0..2_048).collect();
+    shuffle(&mut numbers);
+    let import = |number| [bare(IMPORT), Tok::path(format!("m{number:04}.t"))];
+    let imports: Vec<Tok> = numbers.into_iter().flat_map(import).collect();
+    let mut indices: Vec<u64> = (0..3_200).collect();
+    shuffle(&mut indices);
+    let mut deleted = open("A");
+    deleted.push(bare(DELETED));
+    deleted.extend(indices.into_iter().map(Tok::integer));
+    deleted.push(bare(RIGHT_CURLY));
+    vec![("imports-random", finish(imports)), ("deleted-random", finish(deleted))]
+}
+
+fn shuffle<T>(list: &mut [T]) {
+    let rng = &mut Rng::new(1);
+    for i in (1..list.len()).rev() {
+        list.swap(i, rng.below(i + 1));
+    }
 }
 
 /// Schema tables at the limits of writing, each with its name.
