@@ -14,6 +14,7 @@ BOXES = {
     "replayed": (3, 0, "the Rust's answers", "program"),
     "rooms": (4, 0, "small buffers, R8", "program"),
     "printed": (2, 1, "what typefmt prints", "code"),
+    "stream": (4, 1, "lists on standard input", "code"),
     "demands": (5, 1, "demands 1 to 3", "theorem"),
     "reader": (1, 2, "read", "code"),
     "writer": (3, 2, "write", "code"),
@@ -32,6 +33,7 @@ BOXES = {
     "token": (1, 5, "token tables, R1 to R7", "code"),
     "stem": (2, 5, "names of imports", "code"),
     "identifier": (3, 5, "words, forms, order", "code"),
+    "places": (0, 6, "numbers to be sorted", "code"),
     "wire": (1, 6, "numbers, lent buffers", "code"),
 }
 FILL = {"program": "#fde7c8", "code": "#dce9f9", "theorem": "#e3f1dd"}
@@ -39,10 +41,14 @@ FILL = {"program": "#fde7c8", "code": "#dce9f9", "theorem": "#e3f1dd"}
 # the way of a table: from, to, what goes along, and where the words stand beside the arrow's middle
 WAY = [
     ("typefmt", "printed", "", (0, 0)),
+    ("boundaries", "stream", "", (0, 0)),
+    ("replayed", "stream", "", (0, 0)),
+    ("rooms", "stream", "", (0, 0)),
+    ("stream", "printed", "", (0, 0)),
     ("printed", "reader", "token table", (-44, -12)),
     ("reader", "collector", "errors", (-40, -6)),
     ("reader", "emit", "schema", (40, -6)),
-    ("printed", "writer", "schema table", (46, -12)),
+    ("printed", "writer", "schema table", (60, -10)),
     ("writer", "text", "", (0, 0)),
     ("collector", "judge", "", (0, 0)),
     ("judge", "parser", "", (0, 0)),
