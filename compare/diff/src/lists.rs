@@ -1,6 +1,7 @@
 //! The kept lists, run on a side as their programs run them.
 
 use crate::side::{Read, Side, Wrote};
+use cases::lists::error_lines;
 use std::{fmt::Write, fs, io, path::Path};
 
 const LENT: usize = 65_536;
@@ -74,18 +75,6 @@ fn typefmt(side: Side, table: &[u8]) -> Vec<u8> {
             }
         }
     }
-}
-
-fn error_lines(records: &[u8]) -> String {
-    let mut out = String::new();
-    for record in records.chunks(14) {
-        let number = u16::from_le_bytes([record[2], record[3]]);
-        let start = u32::from_le_bytes([record[4], record[5], record[6], record[7]]);
-        let end = u32::from_le_bytes([record[8], record[9], record[10], record[11]]);
-        let found = u16::from_le_bytes([record[12], record[13]]);
-        writeln!(out, "E {number} {start} {end} {found}").unwrap();
-    }
-    out
 }
 
 fn rooms(side: Side, mut stdin: &[u8]) -> Vec<u8> {

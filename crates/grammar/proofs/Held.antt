@@ -27,8 +27,9 @@ use Rattle.token.proofs.Encode.{le-small, decode-holds}
 use Rattle.schema.specs.Limits.{CommentWithin}
 use Rattle.grammar.specs.Tree.{Is}
 
--- a payload by its kind's rule, and u32s
+-- a kind, a payload by its rule, and u32s
 pub record Sane (t : Token) : Type 0 where
+  pub kind : t .kind ≤ 25
   pub payload : isPayload (t .kind) (t .payload) ≡ true
   pub bytes : AllBytes (t .payload)
   pub start : t .start < 4294967296
@@ -61,7 +62,7 @@ held (more {n} {last} {row} {t} {ts} s f) h k e a =
     let c = all-parts (headBytes (12 + length (t .payload)) (t .kind) (t .start) (t .end)) (t .payload) (b .0) in
     let l = fit-length f in
     let q = fit-squares (more s f) k in (
-      record { payload = s .payload; bytes = c .1; start = omega (arith, s .order); end = omega arith },
+      record { kind = s .known .1; payload = s .payload; bytes = c .1; start = omega (arith, s .order); end = omega arith },
       record { short = omega arith; shallow = omega arith },
       held f (omega arith) (s .shallow) e (b .1),
     )

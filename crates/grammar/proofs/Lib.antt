@@ -1,5 +1,5 @@
--- The theorems of the grammar. Demand3 holds the statements of demand 3, Within and Twice end with those about what reading gives; the others prove
--- them, rule by rule.
+-- The theorems of the grammar. Demand3 holds the statements of demand 3; Within, Twice and Narrow end with those about what reading gives; the others
+-- prove them, rule by rule.
 pub mod Demand3
 pub mod Rules
 pub mod Eats
@@ -20,4 +20,5 @@ pub mod Held
 pub mod Stems
 pub mod Within
 pub mod Twice
+pub mod Narrow
 pub mod Examples

@@ -124,15 +124,16 @@ front-complete k (i ∷ is′) r w h =
     rw (eq-eqb (i .kind) k (w .0), front, skip) (ap (_∷_ i) (ih .0), ih .1)
 
 -- one run of parts, then another
+module _ {A : Type 0} (P : A → Type 0) where
+  pub all-append : (xs ys : List A) → All P xs → All P ys → All P (xs ++ ys)
+  all-append [] ys v w = w
+  all-append (x ∷ xs) ys v w = (v .0, all-append xs ys (v .1) w)
+
 module _ {A : Type 0} (y : A → List Token → List Token) (Wf : A → Type 0) where
   each-append : (xs ys : List A) (r : List Token) → each y xs (each y ys r) ≡ each y (xs ++ ys) r
   each-append [] ys r = refl
   each-append (x ∷ xs) ys r = ap (y x) (each-append xs ys r)
 
-  all-append : (xs ys : List A) → All Wf xs → All Wf ys → All Wf (xs ++ ys)
-  all-append [] ys v w = w
-  all-append (x ∷ xs) ys v w = (v .0, all-append xs ys (v .1) w)
-
   pub read-join : (xs ys : List A) (ts s r : List Token) → Read (each y) (All Wf) ts xs s → Read (each y) (All Wf) s ys r
       → Read (each y) (All Wf) ts (xs ++ ys) r
-  read-join xs ys ts s r p q = (p .0 ∙ ap (each y xs) (q .0) ∙ each-append xs ys r, all-append xs ys (p .1) (q .1))
+  read-join xs ys ts s r p q = (p .0 ∙ ap (each y xs) (q .0) ∙ each-append xs ys r, all-append Wf xs ys (p .1) (q .1))

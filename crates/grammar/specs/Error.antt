@@ -1,5 +1,5 @@
 -- Document 01, "Errors collected": an error, and the record of 14 bytes that reports it.
-use Prim.Native.Nat.{ℕ}
+use Prim.Native.Nat.{ℕ, _<_}
 use mathlib.Core.List.{List, [], _∷_, _++_}
 use lib.Dec.{leb}
 use Rattle.wire.specs.Bytes.{Bytes}
@@ -14,6 +14,13 @@ pub record Error : Type 0 where
   pub number : ℕ
   pub range : Range
   pub found : ℕ
+
+-- numbers that its record holds
+pub record Narrow (e : Error) : Type 0 where
+  pub number : e .number < 65536
+  pub start : e .range .start < 4294967296
+  pub end : e .range .end < 4294967296
+  pub found : e .found < 65536
 
 -- the kind of the first of these tokens; 0 at the list's end
 abbrev pub kindAt : List Token → ℕ
