@@ -54,6 +54,23 @@ def table(rows, task):
     return "\n".join(out)
 
 
+# Why, by a profile.
+REASONS = {
+    "imports-random": "judging and emitting each sort the imports; a comparison takes some 40 ns, most of it to find the two names",
+    "deleted-random": "judging and emitting each sort the indices",
+}
+
+
+def slower(rows):
+    out = []
+    for name, row in rows.items():
+        task = "both" if ("both", "ours") in row else "read"
+        times = row[task, "rust-table"] / row[task, "ours"]
+        if times < 1:
+            out.append(f"- {name}, from the bytes: {times:.2f} times as fast as the Rust. {REASONS.get(name, 'Not looked into.')}".rstrip(".") + ".")
+    return "\n".join(out) or "On no table here, from the bytes."
+
+
 def page(rows):
     compiler = subprocess.run(["rustc", "--version"], capture_output=True, text=True).stdout.split(" (")[0].strip()
     machine = subprocess.run(["uname", "-m"], capture_output=True, text=True).stdout.strip()
@@ -70,6 +87,7 @@ def page(rows):
     out += [f"| {name} | {row['tokens']:,} | {row['bytes']:,} | {ABOUT[name]} |" for name, row in rows.items()]
     for task, (title, what) in TASKS.items():
         out += ["", f"## {title}: {what}", "", table(rows, task)]
+    out += ["", "## Where the Rust is faster", "", slower(rows)]
     return "\n".join(out) + "\n"
 
 
