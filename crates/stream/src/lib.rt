@@ -2,6 +2,8 @@
 // what is printed of a table is the promise of printed::print.
 ghost use Prim.Native.Nat.{_≤_};
 ghost use lib.ListN.{length};
+ghost use Rattle.printed.specs.Printed.{printed, Prints};
+ghost use Rattle.stream.specs.Number.{InFourBytes};
 
 // A list has fewer entries than this: nothing says that an input ends, and a loop has to.
 const ENTRIES: u64 = 1000000;
@@ -12,7 +14,9 @@ pub enum Next {
 }
 
 // Four bytes, little-endian.
-pub fn next_number() -> Next {
+pub fn next_number() -> Next
+    ensures { λ r. ⌜ InFourBytes r ⌝ }
+{
     let mut bytes = [0u8; 4];
     let got = io::read_full(0, &mut bytes);
     if got < 4 {
@@ -68,8 +72,10 @@ fn show(text: &[u8], end: usize)
     io::write_all(1, &text[..end]);
 }
 
-// What typefmt prints of a table, on standard output.
-pub fn answer(t: &[u8], schema: &mut [u8; 65536], text: &mut [u8; 147456]) {
+// What typefmt prints of a table, on standard output; it stands in the lent text before that.
+pub fn answer(t: &[u8], schema: &mut [u8; 65536], text: &mut [u8; 147456])
+    ensures { λ _. ⌜ Prints (now (t .entry)) (now (schema .entry)) (now (schema .exit)) (now (text .entry)) (now (text .exit)) (length (printed (now (t .entry)))) ⌝ }
+{
     let end = printed::print(t, schema, text);
     show(text, end);
 }

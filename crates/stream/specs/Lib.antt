@@ -1,0 +1,2 @@
+-- What the next number of a list can be.
+pub mod Number
