@@ -10,8 +10,11 @@ use Rattle.wire.proofs.Laws.{adv-is}
 use Rattle.token.specs.Places.{tokensFrom}
 use Rattle.token.proofs.Walk.{wf-few}
 use Rattle.grammar.specs.Error.{Error, errorsBytes}
+use Rattle.grammar.specs.Reading.{parseOpening}
 use Rattle.grammar.proofs.Count.{errors-length, errors-at-most-tokens}
-use Rattle.judge.specs.Judges.{Room, Judgeable}
+use Rattle.parser.specs.declared.Skip.{Skip}
+use Rattle.places.specs.Imports.{Opening}
+use Rattle.judge.specs.Judges.{Before, Room, Judgeable}
 use Rattle.judge.proofs.Opening.{imports-room, schema-judged}
 use Rattle.collector.specs.Collected.{Collected, Counts, Grows, grownTo, none, ImportsFrom, DeclarationsFrom, ImportsPushed, DeclarationsPushed}
 use Rattle.collector.specs.declared.Collector.{Collector}
@@ -32,6 +35,10 @@ module _ (es ds : List Error) {o o₁ o₂ : Bytes} {out to : ℕ} (v : Wrote o 
   -- that are a short one
   count-is : (all : List Error) → Wrote o 0 (errorsBytes all) o₂ to → length all ≤ 4096 → grownTo (grownTo none out) to .count ≡ length all
   count-is all u few = omega (arith, first-end, second-end, end-is all u (omega arith))
+
+-- past the schema's comment
+pub opening-before : {t : Bytes} {r : Skip} → Opening t r → Before t (parseOpening (tokensFrom t 0) .rest) (r .next)
+opening-before o = record { tokens = rw (o .read); wf = o .wf }
 
 -- the end of a list doesn't fall
 pub grows : {c : Collector} {o o′ : Bytes} {to : ℕ} (es : List Error) → Counts c → c .length < 2 ^ 64 → Wrote o (c .length) (errorsBytes es) o′ to → Grows c to

@@ -1,9 +1,14 @@
 // The errors of a table in one collector, lent to each rule of the schema in turn: a rule writes from the end of the list that the collector holds,
 // and tells it the new end.
 ghost use mathlib.Core.Path.{_≡_};
+ghost use Prim.Native.Nat.{_≤_};
+ghost use lib.ListN.{length};
+ghost use Rattle.token.specs.Places.{tokensFrom};
+ghost use Rattle.places.specs.Imports.{Orders};
 ghost use Rattle.judge.specs.Judges.{Room, Judgeable};
 ghost use Rattle.collector.specs.Collected.{Collected, Counts, Grows, grownTo, ImportsFrom, DeclarationsFrom, ImportsPushed, DeclarationsPushed};
 use parser::Cursor;
+use places::Ordered;
 
 // The errors so far: the bytes of their list and their number.
 pub struct Collector {
@@ -28,20 +33,20 @@ struct Imports {
     pub next: usize,
 }
 
-// The imports past the schema's comment, by value.
+// The imports, by value.
 fn judge_imports(
     out: &mut [u8],
     at: usize,
     t: &[u8],
     end: u32,
-    items: &mut [u64],
-    spare: &mut [u64],
+    imports: &[u64],
+    order: Ordered,
+    marks: &mut [u64],
 ) -> Imports
-    requires { ⌜ Judgeable (now t) end (now items) (now spare) ⌝ }
+    requires { ⌜ (Orders (now t) (now imports) order) × (length (tokensFrom (now t) 0) ≤ length (now marks)) ⌝ }
     ensures { λ r. ⌜ ImportsFrom (now (t .entry)) end (now (out .entry)) at (now (out .exit)) r ⌝ }
 {
-    let c = judge::skip_opening(t);
-    let i = judge::judge_imports(out, at, t, c, end, items, spare);
+    let i = judge::judge_imports(out, at, t, end, imports, order, marks);
     let next = i.next;
     Imports {
         to: i.out,
@@ -71,13 +76,14 @@ fn push_imports(
     out: &mut [u8],
     t: &[u8],
     end: u32,
-    items: &mut [u64],
-    spare: &mut [u64],
+    imports: &[u64],
+    order: Ordered,
+    marks: &mut [u64],
 ) -> usize
-    requires { ⌜ (Counts (now errors)) × (Judgeable (now t) end (now items) (now spare)) ⌝ }
+    requires { ⌜ (Counts (now errors)) × (Orders (now t) (now imports) order) × (length (tokensFrom (now t) 0) ≤ length (now marks)) ⌝ }
     ensures { λ r. ⌜ ImportsPushed (now (t .entry)) end (now (out .entry)) (now (errors .entry)) (now (out .exit)) (now (errors .exit)) r ⌝ }
 {
-    let i = judge_imports(out, errors.length, t, end, items, spare);
+    let i = judge_imports(out, errors.length, t, end, imports, order, marks);
     *errors = grown(*errors, i.to);
     i.next
 }
@@ -103,17 +109,19 @@ pub fn collect(
     out: &mut [u8],
     t: &[u8],
     end: u32,
+    imports: &[u64],
+    order: Ordered,
     items: &mut [u64],
     spare: &mut [u64],
 ) -> Collector
-    requires { ⌜ Judgeable (now t) end (now items) (now spare) ⌝ }
+    requires { ⌜ (Judgeable (now t) end (now items) (now spare)) × (Orders (now t) (now imports) order) ⌝ }
     ensures { λ r. ⌜ Collected (now (t .entry)) (now (out .entry)) (now (out .exit)) r ⌝ }
 {
     let mut errors = Collector {
         length: 0,
         count: 0,
     };
-    let next = push_imports(&mut errors, out, t, end, items, spare);
+    let next = push_imports(&mut errors, out, t, end, imports, order, spare);
     push_declarations(&mut errors, out, t, next, end, items, spare);
     errors
 }

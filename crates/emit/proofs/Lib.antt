@@ -3,4 +3,4 @@ pub mod Skips
 pub mod Bodies
 pub mod Indices
 pub mod Walks
-pub mod Openings
+pub mod Schemas

@@ -1,7 +1,7 @@
 -- Fields and declarations, one after the other.
-use Prim.Native.Nat.{ℕ, _-_, _≤_, _<_}
+use Prim.Native.Nat.{ℕ, _≤_, _<_}
 use mathlib.Core.Path.{_≡_, refl, sym, ap, _∙_}
-use mathlib.Core.Bool.{Bool, true, false, _||_}
+use mathlib.Core.Bool.{true, false, _||_}
 use mathlib.Core.List.{List, [], _∷_, _++_, map, map-append, append-nil, append-assoc}
 use native.Mathlib.Omega.{arith}
 use lib.Dec.{eqb}
@@ -9,17 +9,17 @@ use lib.ListN.{length}
 use borrow.Author.Tests.{ne-eqb}
 use Rattle.wire.specs.Bytes.{Bytes}
 use Rattle.wire.specs.Put.{Wrote}
-use Rattle.wire.proofs.Laws.{then, parts, Rest, rest-all, rest-step, rest-none, wrote-length}
+use Rattle.wire.proofs.Laws.{then, Rest, rest-all, rest-step, rest-none, wrote-length}
 use Rattle.token.specs.Token.{Token}
 use Rattle.token.specs.Kind.{kDeleted, kRightCurly}
 use Rattle.token.specs.Places.{tokAt, nextAt, tokensFrom, Wf}
-use Rattle.token.proofs.Walk.{next-past, tokens-step}
+use Rattle.token.proofs.Walk.{tokens-step}
 use Rattle.schema.specs.Ast.{Declaration}
 use Rattle.schema.specs.Encode.{encodeDeclarations}
-use Rattle.grammar.specs.Tree.{HeadTree, DeclarationTree}
+use Rattle.grammar.specs.Tree.{DeclarationTree}
 use Rattle.grammar.specs.Meaning.{fieldOf, declarationOf}
 use Rattle.grammar.specs.Error.{kindAt}
-use Rattle.grammar.specs.Reading.{ok, fail, skip, isEnd, Reading, join, parseField, parseFields, parseDeleted, parseHead, parseDeclaration, parseDeclarations}
+use Rattle.grammar.specs.Reading.{fail, skip, isEnd, Reading, join, parseField, parseDeleted, parseHead, parseDeclaration, parseDeclarations}
 use Rattle.grammar.proofs.Rules.{cons≢nil, both-nil}
 use Rattle.grammar.proofs.Fields.{field-sound}
 use Rattle.grammar.proofs.Declarations.{head-sound}
@@ -34,8 +34,9 @@ use Rattle.parser.specs.declared.HeadPlaces.{HeadPlaces}
 use Rattle.parser.proofs.Laws.{inside, none-left}
 use Rattle.records.specs.Pieces.{encodeField, encodeHead}
 use Rattle.records.specs.Here.{FieldHere, HeadHere}
+use Rattle.places.specs.Imports.{Room}
 use Rattle.imports.specs.Imports.{lastEnd, Clear}
-use Rattle.emit.specs.Emits.{Emits, Before, Room, fieldsFrom, fieldsBytes, declarationFrom, declarationsFrom, declarationsBytes, isOther}
+use Rattle.emit.specs.Emits.{Emits, Before, fieldsFrom, fieldsBytes, declarationFrom, declarationsFrom, declarationsBytes, isOther}
 use Rattle.emit.specs.Indices.{deletedBytes}
 use Rattle.emit.specs.declared.Emitted.{Emitted}
 use Rattle.emit.proofs.Skips.{skip-other, skip-right}

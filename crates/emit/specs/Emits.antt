@@ -1,6 +1,6 @@
 -- What emitting promises of a part of the schema whose reading has no errors: the encoding of what it means is written, and the next cursor
 -- stands before the tokens that the reading leaves.
-use Prim.Native.Nat.{ℕ, _≤_}
+use Prim.Native.Nat.{ℕ}
 use mathlib.Core.Path.{_≡_}
 use mathlib.Core.Bool.{Bool, not}
 use mathlib.Core.List.{List, [], map}
@@ -9,16 +9,15 @@ use Rattle.wire.specs.Bytes.{Bytes}
 use Rattle.wire.specs.Put.{Wrote}
 use Rattle.token.specs.Kind.{kRightCurly}
 use Rattle.token.specs.Token.{Token}
-use Rattle.token.specs.Places.{tokAt, tokensFrom, Wf}
+use Rattle.token.specs.Places.{tokensFrom, Wf}
 use Rattle.schema.specs.Encode.{encodeFields, encodeDeclarations}
 use Rattle.grammar.specs.Tree.{FieldTree, DeclarationTree}
 use Rattle.grammar.specs.Meaning.{fieldOf, declarationOf}
-use Rattle.grammar.specs.Reading.{Reading, is, parseFields, parseDeclaration, parseDeclarations, parseOpening, parseSchema}
-use Rattle.parser.specs.Trees.{when}
+use Rattle.grammar.specs.Reading.{Reading, is, parseFields, parseDeclaration, parseDeclarations, parseSchema}
 use Rattle.parser.specs.Steps.{ahead}
 use Rattle.parser.specs.declared.Cursor.{Cursor}
-use Rattle.parser.specs.declared.Skip.{Skip}
-use Rattle.records.specs.Here.{CommentHere}
+use Rattle.places.specs.Imports.{Room, Orders}
+use Rattle.places.specs.declared.Ordered.{Ordered}
 use Rattle.imports.specs.Imports.{lastEnd}
 use Rattle.emit.specs.declared.Emitted.{Emitted}
 
@@ -31,11 +30,6 @@ pub record Emits {A : Type 0} (t o : Bytes) (at : ℕ) (encode : A → Bytes) (R
 pub record Before (t : Bytes) (ts : List Token) (c : Cursor) : Type 0 where
   pub tokens : ahead t c ≡ ts
   pub wf : Wf t (c .at)
-
--- two lent lists have room for a place of each token
-pub record Room (ts : List Token) (items spare : List ℕ) : Type 0 where
-  pub list : length ts ≤ length items
-  pub work : length ts ≤ length spare
 
 -- The readings of a table from a cursor on, and what they give in a schema table.
 abbrev pub fieldsFrom : Bytes → Cursor → Reading (List FieldTree)
@@ -57,15 +51,9 @@ declarationsBytes ds = encodeDeclarations (map declarationOf ds)
 abbrev pub isOther : ℕ → Bool
 isOther k = not (is kRightCurly k)
 
--- the schema's comment, where there is one, and the cursor past it
-pub record Opening (t : Bytes) (r : Skip) : Type 0 where
-  pub read : parseOpening (tokensFrom t 0) ≡ record { errors = []; value = when (r .there) (tokAt t 0); rest = ahead t (r .next) }
-  pub comment : CommentHere t 0 (r .there)
-  pub short : length (ahead t (r .next)) ≤ length (tokensFrom t 0)
-  pub wf : Wf t (r .next .at)
-
--- a table that passed the check and is read without errors
-pub record Readable (t : Bytes) (items spare : List ℕ) : Type 0 where
+-- a table that passed the check and is read without errors, and its imports in order
+pub record Readable (t : Bytes) (imports : List ℕ) (order : Ordered) (items spare : List ℕ) : Type 0 where
   pub wf : Wf t 0
   pub errors : parseSchema (tokensFrom t 0) .errors ≡ []
   pub room : Room (tokensFrom t 0) items spare
+  pub orders : Orders t imports order

@@ -8,16 +8,16 @@ ghost use Rattle.grammar.specs.Sort.{sortBy};
 ghost use Rattle.grammar.specs.Meaning.{schemaOf};
 ghost use Rattle.grammar.specs.Reading.{skip, parseDeleted, parseSchema};
 ghost use Rattle.parser.specs.Steps.{ahead};
+ghost use Rattle.places.specs.Imports.{Room};
 ghost use Rattle.imports.specs.Imports.{Clear};
-ghost use Rattle.emit.specs.Emits.{Emits, Before, Room, fieldsFrom, fieldsBytes, declarationFrom, declarationsFrom, declarationsBytes, isOther, Opening, Readable};
+ghost use Rattle.emit.specs.Emits.{Emits, Before, fieldsFrom, fieldsBytes, declarationFrom, declarationsFrom, declarationsBytes, isOther, Readable};
 ghost use Rattle.emit.specs.Indices.{Sortable, deletedBytes};
 use parser::Cursor;
 use parser::FieldStep;
 use parser::HeadStep;
-use parser::Skip;
 use parser::kind_or_end;
-use parser::kinds;
 use parser::next;
+use places::Ordered;
 use sorted::Key;
 use token::kind;
 
@@ -158,47 +158,20 @@ fn put_declarations(
     a
 }
 
-// Whether the first token is the schema's comment, and the cursor past that.
-fn skip_opening(t: &[u8]) -> Skip
-    requires { ⌜ Wf (now t) 0 ⌝ }
-    ensures { λ r. ⌜ Opening (now (t .entry)) r ⌝ }
-{
-    let c = Cursor { at: 0 };
-    if kind_or_end(t, c) != kind::COMMENT {
-        return Skip {
-            there: false,
-            next: c,
-        };
-    }
-    let past = next(t, c);
-    if !kinds::is_keyword(kind_or_end(t, past)) {
-        return Skip {
-            there: true,
-            next: past,
-        };
-    }
-    let at = past.at;
-    if token::end_at(t, 0) as u64 + 1 < token::start_at(t, at) as u64 {
-        return Skip {
-            there: true,
-            next: past,
-        };
-    }
-    Skip {
-        there: false,
-        next: c,
-    }
-}
-
-// The schema table of t; `items` and `spare` are lent for the work.
-pub fn emit(out: &mut [u8], o: usize, t: &[u8], items: &mut [u64], spare: &mut [u64]) -> usize
-    requires { ⌜ Readable (now t) (now items) (now spare) ⌝ }
+// The schema table of t, whose imports are given in order; `items` and `spare` are lent for the work.
+pub fn emit(
+    out: &mut [u8],
+    o: usize,
+    t: &[u8],
+    imports: &[u64],
+    order: Ordered,
+    items: &mut [u64],
+    spare: &mut [u64],
+) -> usize
+    requires { ⌜ Readable (now t) (now imports) order (now items) (now spare) ⌝ }
     ensures { λ r. ⌜ Wrote (now (out .entry)) o (encodeSchema (schemaOf (parseSchema (tokensFrom (now (t .entry)) 0) .value))) (now (out .exit)) r ⌝ }
 {
-    let comment = skip_opening(t);
-    let a = records::put_opening(out, o, t, comment.there);
-    let i = imports::collect_imports(t, comment.next, items);
-    let n = i.count;
-    let b = imports::put_imports(out, a, t, &mut items[..n], spare);
-    put_declarations(out, b, t, i.next, items, spare)
+    let a = records::put_opening(out, o, t, order.comment);
+    let b = imports::put_imports(out, a, t, imports);
+    put_declarations(out, b, t, order.next, items, spare)
 }

@@ -1,14 +1,14 @@
 -- A form is added to byte by byte of its name: what each byte adds, and what is left after it.
 use mathlib.Core.Path.{_≡_, refl, sym, _∙_}
 use mathlib.Core.Bool.{Bool, true, false}
-use mathlib.Core.List.{List, [], _∷_, _++_}
+use mathlib.Core.List.{[], _∷_, _++_}
 use Prim.Native.Nat.{ℕ, zero, suc, _+_, _<_, _≤_}
 use native.Mathlib.Numerals.{add-one}
 use native.Mathlib.Omega.{arith}
 use lib.Dec.{eqb}
 use lib.ListN.{length, getD, drop, drop-of-length-le}
 use lib.Seq.{drop-cons}
-use borrow.Author.Tests.{eq-eqb, ne-eqb}
+use borrow.Author.Tests.{ne-eqb}
 use Rattle.wire.specs.Bytes.{Bytes}
 use Rattle.wire.specs.Pick.{pick}
 use Rattle.wire.specs.Put.{Wrote}
@@ -63,7 +63,7 @@ word-added up bar (suc zero) b bs e h = go (isUpper b) refl
 word-added up bar (suc (suc zero)) b bs e h = rw (added-later up bar 2 b e (λ z. omega arith) (λ z. omega arith)) (later-begin b bs (laterBy bar) e)
 word-added up bar (suc (suc (suc s))) b bs e h = absurd (omega arith)
 
-left-added : (up bar : Bool) (state b : ℕ) (bs : Bytes) → state ≤ 2
+pub left-added : (up bar : Bool) (state b : ℕ) (bs : Bytes) → state ≤ 2
     → leftOf (firstBy up) (laterBy bar) state (b ∷ bs) ≡ added up bar state b ++ leftOf (firstBy up) (laterBy bar) (stateAfter state b) bs
 left-added up bar state b bs h = go (isBreak b) refl
   where
@@ -71,7 +71,7 @@ left-added up bar state b bs h = go (isBreak b) refl
     go true e = rw (added-break up bar state b e, after-space state b e) (left-break (firstBy up) (laterBy bar) state b bs e)
     go false e = rw (after-word state b e) (word-added up bar state b bs e h)
 
-state-small : (state b : ℕ) → state ≤ 2 → stateAfter state b ≤ 2
+pub state-small : (state b : ℕ) → state ≤ 2 → stateAfter state b ≤ 2
 unfolding stateAfter
 state-small state b h = go (isBreak b) (eqb state 1)
   where

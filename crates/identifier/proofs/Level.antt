@@ -1,19 +1,20 @@
--- Two forms are compared by their first bytes, and by what follows where those are one.
-use mathlib.Core.Path.{_≡_, refl, ap, ap₂, sym, _∙_}
+-- Two forms are compared by their first bytes, and by what follows where those are one. Bytes that two names begin with in common add the same to both.
+use mathlib.Core.Path.{_≡_, refl, ap₂, sym, _∙_}
 use mathlib.Core.Bool.{Bool, true, false}
-use mathlib.Core.List.{List, [], _∷_}
-use Prim.Native.Nat.{ℕ, suc, _+_, _<_, _≤_}
+use mathlib.Core.List.{[], _∷_, _++_}
+use Prim.Native.Nat.{ℕ, _+_, _<_, _≤_}
 use native.Mathlib.Omega.{arith}
 use borrow.Author.Tests.{lt-ltb, le-ltb}
-use lib.ListN.{length, drop}
+use lib.ListN.{length, getD, drop}
 use Rattle.wire.specs.Bytes.{Bytes}
 use Rattle.wire.specs.Pick.{pick}
 use Rattle.identifier.specs.Forms.{low, barLow, snakeOf}
-use Rattle.identifier.specs.Left.{leftOf, headOf, tailOf, codeOf, Follows}
-use Rattle.identifier.specs.Order.{orderOf, nameOrder}
-use Rattle.identifier.proofs.Left.{falls}
+use Rattle.identifier.specs.Left.{leftOf, headOf, tailOf, codeOf, Follows, added, stateAfter}
+use Rattle.identifier.specs.Order.{orderOf, nameOrder, SameTo}
+use Rattle.identifier.proofs.Left.{byte-at, falls}
+use Rattle.identifier.proofs.Added.{left-added, state-small}
 use Rattle.identifier.specs.declared.Next.{Next}
-use Rattle.identifier.specs.declared.Order.{Order}
+use Rattle.identifier.specs.declared.Place.{Place}
 use Rattle.identifier.specs.declared.Order.the-variants.{Less, Equal, Greater}
 
 heads-below : (x y : Bytes) → headOf x < headOf y → orderOf x y ≡ Less
@@ -50,9 +51,39 @@ snakeLeft name at state = leftOf low barLow state (drop at name)
 pub record Level (a b : Bytes) (i s j t : ℕ) : Type 0 where
   pub order : nameOrder a b ≡ orderOf (snakeLeft a i s) (snakeLeft b j t)
 
-pub start : (a b : Bytes) → Level a b 0 0 0 0
+-- and they are alike up to one place of both names
+pub record Alike (a b : Bytes) (at state : ℕ) : Type 0 where
+  pub order : nameOrder a b ≡ orderOf (snakeLeft a at state) (snakeLeft b at state)
+  pub small : state ≤ 2
+
+pub start : (a b : Bytes) → Alike a b 0 0
 unfolding nameOrder snakeOf
-start a b = record { order = refl }
+start a b = record { order = refl; small = omega arith }
+
+order-common : (p x y : Bytes) → orderOf (p ++ x) (p ++ y) ≡ orderOf x y
+unfolding pick
+order-common [] x y = refl
+order-common (b ∷ p) x y = rw (le-ltb b b (omega arith)) (order-common p x y)
+
+snake-added : (name : Bytes) (at state : ℕ) → at < length name → state ≤ 2
+    → snakeLeft name at state ≡ added false true state (getD name at 0) ++ snakeLeft name (at + 1) (stateAfter state (getD name at 0))
+snake-added name at state h l = rw (byte-at name h) (left-added false true state (getD name at 0) (drop (at + 1) name) l)
+
+module _ {a b : Bytes} {at state : ℕ} (g : Alike a b at state) where
+  pub alike-more : at < length a → at < length b → getD a at 0 ≡ getD b at 0 → {s : ℕ} → s ≡ stateAfter state (getD a at 0) → Alike a b (at + 1) s
+  alike-more h k e q =
+      let x = getD a at 0 in
+      let l : snakeLeft b at state ≡ added false true state x ++ snakeLeft b (at + 1) (stateAfter state x) = rw e (snake-added b at state k (g .small)) in
+      record {
+        order = rw q (g .order ∙ ap₂ orderOf (snake-added a at state h (g .small)) l ∙ order-common (added false true state x) _ _);
+        small = rw q (state-small state x (g .small));
+      }
+
+  pub alike-to : SameTo a b (record { at = at; state = state })
+  alike-to = record { left = sym (g .order) }
+
+pub level : {a b : Bytes} {r : Place} → SameTo a b r → Level a b (r .at) (r .state) (r .at) (r .state)
+level g = record { order = sym (g .left) }
 
 module _ {a b : Bytes} {i s j t : ℕ} (g : Level a b i s j t) {x y : Next} (f : Follows false true a i s x) (h : Follows false true b j t y) {p q : ℕ} (u : p ≡ codeOf x) (v : q ≡ codeOf y) where
   first : p ≡ headOf (snakeLeft a i s)

@@ -1,10 +1,14 @@
 -- Document 01, "Names": equality and order are those of the snake forms, by bytes.
+use mathlib.Core.Path.{_≡_}
 use mathlib.Core.Bool.{Bool, true, false}
 use mathlib.Core.List.{List, [], _∷_}
 use lib.Dec.{ltb}
+use lib.ListN.{drop}
 use Rattle.wire.specs.Bytes.{Bytes}
 use Rattle.wire.specs.Pick.{pick}
-use Rattle.identifier.specs.Forms.{snakeOf}
+use Rattle.identifier.specs.Forms.{low, barLow, snakeOf}
+use Rattle.identifier.specs.Left.{leftOf}
+use Rattle.identifier.specs.declared.Place.{Place}
 use Rattle.identifier.specs.declared.Order.{Order}
 use Rattle.identifier.specs.declared.Order.the-variants.{Less, Equal, Greater}
 
@@ -34,3 +38,7 @@ isBefore a b = isLess (nameOrder a b)
 
 unfoldable pub sameName : Bytes → Bytes → Bool
 sameName a b = isEqual (nameOrder a b)
+
+-- what is left of two names at a place decides their order
+pub record SameTo (a b : Bytes) (r : Place) : Type 0 where
+  pub left : orderOf (leftOf low barLow (r .state) (drop (r .at) a)) (leftOf low barLow (r .state) (drop (r .at) b)) ≡ nameOrder a b

@@ -20,7 +20,7 @@ ghost use Rattle.identifier.specs.Table.{table, Tables};
 ghost use Rattle.identifier.specs.Left.{firstBy, laterBy, added, stateAfter, gives, codeOf, Follows};
 ghost use Rattle.identifier.specs.Words.{wordsOf};
 ghost use Rattle.identifier.specs.Forms.{joined, snakeOf, camelOf, pascalOf, IsForm};
-ghost use Rattle.identifier.specs.Order.{nameOrder, sameName};
+ghost use Rattle.identifier.specs.Order.{nameOrder, sameName, SameTo};
 
 // The next byte of a form, unless it ends; `at` and `state` are where the rest of it begins.
 struct Next {
@@ -323,6 +323,32 @@ fn code(next: Next) -> u16
     0
 }
 
+// A place of a name, and the state there.
+struct Place {
+    at: usize,
+    state: u8,
+}
+
+// Past the bytes that two names begin with in common: so far their forms are the same.
+fn skip_same(class: &[u8; 256], a: &[u8], b: &[u8]) -> Place
+    requires { ⌜ now class ≡ table classOf ⌝ }
+    ensures { λ r. ⌜ SameTo (now (a .entry)) (now (b .entry)) r ⌝ }
+{
+    let mut at: usize = 0;
+    let mut state: u8 = 0;
+    while at < a.len() {
+        if at < b.len() {
+            if a[at] == b[at] {
+                state = state_after(class, a[at], state);
+                at += 1;
+                continue;
+            }
+        }
+        break;
+    }
+    Place { at, state }
+}
+
 // The order of two names. The snake forms are compared byte by byte, up to the first difference, and neither is built; the tables are lent, so
 // that a caller who compares many names makes them once.
 pub fn compare_in(
@@ -335,10 +361,11 @@ pub fn compare_in(
     requires { ⌜ Tables (now class) (now lower) (now upper) ⌝ }
     ensures { λ r. ⌜ r ≡ nameOrder (now (a .entry)) (now (b .entry)) ⌝ }
 {
-    let mut i: usize = 0;
-    let mut s: u8 = 0;
-    let mut j: usize = 0;
-    let mut t: u8 = 0;
+    let same = skip_same(class, a, b);
+    let mut i = same.at;
+    let mut s = same.state;
+    let mut j = same.at;
+    let mut t = same.state;
     loop {
         let x = next_byte(class, lower, upper, a, false, true, i, s);
         let y = next_byte(class, lower, upper, b, false, true, j, t);

@@ -1,23 +1,20 @@
--- The imports that are read from a cursor on, their places, and their records in a schema table.
-use Prim.Native.Nat.{ℕ, _+_, _≤_}
+-- The records of imports in a schema table.
+use Prim.Native.Nat.{ℕ}
 use mathlib.Core.Path.{_≡_}
 use mathlib.Core.List.{List, [], map}
-use lib.ListN.{length, take}
+use lib.ListN.{length}
 use Rattle.wire.specs.Bytes.{Bytes}
-use Rattle.token.specs.Kind.{kImport}
 use Rattle.token.specs.Token.{endOf}
-use Rattle.token.specs.Places.{tokAt, tokensFrom, Wf}
+use Rattle.token.specs.Places.{tokensFrom, Wf}
 use Rattle.schema.specs.Ast.{Import}
 use Rattle.schema.specs.Kind.{sImport}
 use Rattle.schema.specs.Encode.{encodeRecord, importPayload, encodeImports}
-use Rattle.grammar.specs.Tree.{ImportTree, Is, All}
+use Rattle.grammar.specs.Tree.{ImportTree}
 use Rattle.grammar.specs.Meaning.{importOf}
-use Rattle.grammar.specs.Condition.{Named}
 use Rattle.grammar.specs.Reading.{Reading, parseImports}
 use Rattle.parser.specs.Steps.{ahead}
 use Rattle.parser.specs.declared.Cursor.{Cursor}
-use Rattle.sorted.specs.Item.{importAt, IsImport}
-use Rattle.imports.specs.declared.Collected.{Collected}
+use Rattle.sorted.specs.Item.{importAt, placeOf}
 
 -- where the last token of a table ends
 abbrev pub lastEnd : Bytes → ℕ
@@ -31,31 +28,12 @@ pub record Clear {A : Type 0} (t : Bytes) (c : Cursor) (R : Reading A) : Type 0 
   pub wf : Wf t (c .at)
   pub errors : R .errors ≡ []
 
--- an import stands at a place
-pub record ImportHere (t : Bytes) (at : ℕ) : Type 0 where
-  pub keyword : Is kImport (tokAt t at)
-  pub read : IsImport t at
-
--- and has a name
-pub record NamedHere (t : Bytes) (at : ℕ) : Type 0 where
-  pub here : ImportHere t at
-  pub named : Named (importAt t at)
-
--- the first items are the places of the imports from c on
-pub record Collects (t : Bytes) (c : Cursor) (items : List ℕ) (r : Collected) : Type 0 where
-  pub few : r .count ≤ length items
-  pub short : r .count + length (ahead t (r .next)) ≤ length (ahead t c)
-  pub here : All (ImportHere t) (take (r .count) items)
-  pub trees : map (importAt t) (take (r .count) items) ≡ importsFrom t c .value
-  pub rest : ahead t (r .next) ≡ importsFrom t c .rest
-  pub wf : Wf t (r .next .at)
-
 abbrev pub meaningAt : Bytes → ℕ → Import
-meaningAt t at = importOf (importAt t at)
+meaningAt t x = importOf (importAt t (placeOf x))
 
 abbrev pub encodeImport : Import → Bytes
 encodeImport i = encodeRecord sImport (i .range) (importPayload i)
 
--- the records of the imports at these places
+-- the records of these imports
 abbrev pub importsAt : Bytes → List ℕ → Bytes
-importsAt t ps = encodeImports (map (meaningAt t) ps)
+importsAt t xs = encodeImports (map (meaningAt t) xs)

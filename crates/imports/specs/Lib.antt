@@ -1,2 +1,2 @@
--- Imports: their places in a token table, and their records.
+-- The records of imports.
 pub mod Imports

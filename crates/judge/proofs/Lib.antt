@@ -3,6 +3,7 @@ pub mod Ahead
 pub mod Errors
 pub mod Remains
 pub mod Fields
+pub mod Clearing
 pub mod Walks
 pub mod Sorting
 pub mod Indices

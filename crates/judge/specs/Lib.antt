@@ -1,3 +1,3 @@
 -- What judging a table promises.
 pub mod Judges
-pub mod Places
+pub mod Told

@@ -1,11 +1,10 @@
 -- The numbers of the Integers, gathered one by one.
 use Prim.Native.Nat.{ℕ, _+_, _-_, _*_, _≤_, _<_}
 use mathlib.Core.Path.{_≡_, refl, sym, ap, _∙_}
-use mathlib.Core.Bool.{false, true≢false}
+use mathlib.Core.Bool.{false}
 use mathlib.Core.List.{List, [], _∷_, _++_, map, map-append, append-nil, append-assoc}
 use native.Mathlib.Numerals.{add-one}
 use native.Mathlib.Omega.{arith}
-use lib.Dec.{eqb}
 use lib.ListN.{length, take, set, length-set}
 use lib.Seq.{take-suc-set}
 use borrow.Author.Tests.{eq-eqb, ne-eqb}
@@ -19,9 +18,7 @@ use Rattle.grammar.specs.Reading.{is, front, skip}
 use Rattle.parser.specs.Steps.{ahead, Stepped}
 use Rattle.parser.specs.declared.Cursor.{Cursor}
 use Rattle.parser.proofs.Laws.{inside}
-use Rattle.sorted.specs.Item.{IsInteger}
-use Rattle.places.specs.declared.Collected.{Collected}
-use Rattle.places.specs.Places.{numberAt, Integers, Numbers}
+use Rattle.places.specs.Places.{numberAt, IsInteger, Integers, Numbers}
 
 -- the tokens at the places of a walk are the run of Integers there
 front-stops : (ts : List Token) → is kInteger (kindAt ts) ≡ false → (front (is kInteger) ts ≡ []) × (skip (is kInteger) ts ≡ ts)

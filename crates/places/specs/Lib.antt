@@ -1,2 +1,3 @@
 -- Places of a table, and what is collected there.
 pub mod Places
+pub mod Imports

@@ -5,6 +5,7 @@ use mathlib.Core.Bool.{true, false}
 use mathlib.Core.List.{List, [], _∷_, _++_}
 use native.Mathlib.Nat.{zero-add}
 use native.Mathlib.Omega.{arith}
+use borrow.Author.Tests.{le-leb}
 use lib.Dec.{leb}
 use lib.ListN.{length, drop, length-append}
 use Rattle.wire.specs.Bytes.{Bytes}
@@ -26,7 +27,10 @@ use Rattle.token.specs.declared.Checked.the-variants.{Fine}
 use Rattle.token.proofs.Walk.{fine, refusal}
 use Rattle.grammar.proofs.Count.{errors-length, errors-at-most-tokens}
 use Rattle.grammar.proofs.Outcomes.{parse-schema, parse-errors, read-refused, read-tokens}
-use Rattle.reader.specs.Answers.{Answers, Checked, told}
+use Rattle.places.specs.Imports.{Orders}
+use Rattle.places.specs.declared.Ordered.{Ordered}
+use Rattle.judge.specs.Judges.{Judgeable}
+use Rattle.reader.specs.Answers.{Answers, Checked, Ready, Clean, told}
 use Rattle.reader.specs.declared.Answer.the-variants.{Refused, Schema, Errors}
 
 pub turned-away : (t o : Bytes) {number offset : ℕ} → decode t ≡ refused number offset → Answers t o o (Refused number offset)
@@ -54,8 +58,17 @@ module _ (t o : Bytes) {ts : List Token} (d : decode t ≡ tokens ts) where
       leb (length (errorsBytes es)) (length o) ≡ true → (o′ ≡ errorsBytes es ++ drop (length (errorsBytes es)) o) × (r ≡ length (errorsBytes es)) → Answers t o o′ (Errors r)
   errors-written p e (b, n) = let a = fits t o d p e in record { answer = rw (a, n); buffer = rw a b }
 
+-- no tokens are an empty schema, whose table is empty
+pub nothing-read : (t o : Bytes) {e : ℕ} → Checked t e → length (tokensFrom t 0) ≡ 0 → Answers t o o (Schema 0)
+unfolding encodeSchema
+nothing-read t o c z = go (tokensFrom t 0) (c .decodes) z
+  where
+    go : (ts : List Token) → decode t ≡ tokens ts → length ts ≡ 0 → Answers t o o (Schema 0)
+    go [] d n = schema-written t o d refl (le-leb 0 (length o) (omega arith)) (refl, refl)
+    go (x ∷ xs) d n = absurd (omega (arith, n))
+
 -- a count of the errors is 0 exactly where there are none
-pub errors-none : (es : List Error) {n : ℕ} → n ≡ length es → n ≡ 0 → es ≡ []
+errors-none : (es : List Error) {n : ℕ} → n ≡ length es → n ≡ 0 → es ≡ []
 errors-none [] e z = refl
 errors-none (x ∷ es) e z = absurd (omega (arith, e, z))
 
@@ -80,6 +93,22 @@ pub landed : (o bs : Bytes) {o′ : Bytes} {r : ℕ} → length o < 184467440737
 landed o bs k f w =
     let a = adv-is bs 0 (omega arith) in
     (w .bytes ∙ over-fits bs o 0 (omega arith) (omega arith) ∙ rw zero-add, w .place ∙ omega arith)
+
+-- what collecting and emitting ask, of lists that are as long as those that were lent
+module _ {t : Bytes} {end : ℕ} {imports : List ℕ} {order : Ordered} {items spare : List ℕ} (p : Ready t end imports order items spare) where
+  pub judgeable : {items′ spare′ : List ℕ} → length items′ ≡ length items → length spare′ ≡ length spare → (Judgeable t end items′ spare′) × (Orders t imports order)
+  judgeable x y = (record { room = record { wf = p .checked .wf; places = omega (arith, p .list); work = omega (arith, p .work) }; last = p .checked .last }, p .orders)
+
+  pub clean : {n : ℕ} {items′ spare′ : List ℕ} → n ≡ length (parseSchema (tokensFrom t 0) .errors) → n ≡ 0 → length items′ ≡ length items → length spare′ ≡ length spare
+      → Clean t imports order items′ spare′
+  clean e z x y = record {
+    decodes = p .checked .decodes;
+    wf = p .checked .wf;
+    none = errors-none _ e z;
+    orders = p .orders;
+    list = omega (arith, p .list);
+    work = omega (arith, p .work);
+  }
 
 -- what the check told
 pub passed : {t : Bytes} {r : token.Checked} {n e : ℕ} → r ≡ checked t → r ≡ Fine n e → Checked t e × (length (tokensFrom t 0) ≡ n)

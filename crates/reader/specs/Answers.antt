@@ -10,6 +10,8 @@ use Rattle.token.specs.Places.{tokensFrom, Wf}
 use Rattle.grammar.specs.Reading.{parseSchema}
 use Rattle.grammar.specs.Answer.{readAnswer, bufferAfter}
 use Rattle.grammar.specs.Answer as reading
+use Rattle.places.specs.Imports.{Orders}
+use Rattle.places.specs.declared.Ordered.{Ordered}
 use Rattle.reader.specs.declared.Answer.{Answer}
 use Rattle.reader.specs.declared.Answer.the-variants.{Refused, Schema, Errors}
 
@@ -29,16 +31,25 @@ pub record Checked (t : Bytes) (end : ℕ) : Type 0 where
   pub last : end ≡ endOf 0 (tokensFrom t 0)
   pub wf : Wf t 0
 
--- and two lent lists with room for a place of each token
-pub record Ready (t : Bytes) (end : ℕ) (items spare : List ℕ) : Type 0 where
+-- and three lent lists with room for a place of each token
+pub record Lent (t : Bytes) (end : ℕ) (imports items spare : List ℕ) : Type 0 where
   pub checked : Checked t end
+  pub order : length (tokensFrom t 0) ≤ length imports
+  pub list : length (tokensFrom t 0) ≤ length items
+  pub work : length (tokensFrom t 0) ≤ length spare
+
+-- and its imports in order
+pub record Ready (t : Bytes) (end : ℕ) (imports : List ℕ) (order : Ordered) (items spare : List ℕ) : Type 0 where
+  pub checked : Checked t end
+  pub orders : Orders t imports order
   pub list : length (tokensFrom t 0) ≤ length items
   pub work : length (tokensFrom t 0) ≤ length spare
 
 -- the same of a table that has no errors
-pub record Clean (t : Bytes) (items spare : List ℕ) : Type 0 where
+pub record Clean (t : Bytes) (imports : List ℕ) (order : Ordered) (items spare : List ℕ) : Type 0 where
   pub decodes : decode t ≡ tokens (tokensFrom t 0)
   pub wf : Wf t 0
   pub none : parseSchema (tokensFrom t 0) .errors ≡ []
+  pub orders : Orders t imports order
   pub list : length (tokensFrom t 0) ≤ length items
   pub work : length (tokensFrom t 0) ≤ length spare

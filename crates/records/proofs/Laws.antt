@@ -44,10 +44,6 @@ pub rest-last : {o : Bytes} {at : ℕ} {bs o₁ : Bytes} {r : ℕ} {o₀ : Bytes
 rest-last w q = record { bytes = w .bytes ∙ q .bytes; place = w .place ∙ q .place }
 
 -- the bytes of a slice
-pub all-bytes : (bs : Bytes) → ((i : ℕ) → getD bs i 0 < 256) → AllBytes bs
-all-bytes [] h = tt
-all-bytes (b ∷ bs) h = (h 0, all-bytes bs λ i. h (suc i))
-
 pub all-payload : (t : Bytes) (at : ℕ) → AllBytes t → AllBytes (tokAt t at .payload)
 unfolding tokenOf
 all-payload t at h = all-take (sizeOf (drop at t) - 12) (drop 12 (drop at t)) (all-drop 12 (drop at t) (all-drop at t h))

@@ -1,22 +1,21 @@
--- Where the two loops stand: what is found so far, with the bytes that are left, gives what the whole path gives.
+-- Where the two loops stand: what is found so far, with the bytes that are left, gives what the whole path gives. And the name of an import, by the
+-- part that its identifier is.
 use mathlib.Core.Path.{_≡_, refl, ap, sym, _∙_}
 use mathlib.Core.Bool.{Bool, true, false}
 use mathlib.Core.List.{List, [], _∷_, _++_, append-assoc, append-nil}
 use Prim.Native.Nat.{ℕ, zero, suc, _+_, _-_, _<_, _≤_}
-use native.Mathlib.Nat.{sub-self}
+use native.Mathlib.Nat.{sub-self, add-sub-cancel-left}
 use native.Mathlib.Numerals.{add-one}
 use native.Mathlib.Omega.{arith}
 use lib.ListN.{length, getD, take, drop, length-drop, drop-of-length-le}
-use lib.Seq.{drop-cons, take-suc, getD-drop, length-take-le}
+use lib.Seq.{drop-cons, take-suc, getD-drop, length-take-le, take-take, take-add, drop-at, drop-drop}
 use lib.Dec.{eqb}
 use borrow.Author.Tests.{eq-eqb, ne-eqb}
 use Rattle.wire.specs.Bytes.{Bytes}
 use Rattle.wire.specs.Pick.{pick}
-use Rattle.stem.specs.Stem.{parts, kept, lastKept, lastPart, isParent, lastDot, cut, stemOf}
-
--- the part of a path from a up to e
-abbrev pub part : ℕ → ℕ → Bytes → Bytes
-part a e path = take (e - a) (drop a path)
+use Rattle.stem.specs.Part.{part, IsPart}
+use Rattle.stem.specs.declared.Part.{Part}
+use Rattle.stem.specs.Stem.{parts, kept, lastKept, lastPart, isParent, lastDot, cut, stemOf, importName}
 
 part-none : (i : ℕ) (path : Bytes) → part i i path ≡ []
 part-none i path = rw sub-self
@@ -27,6 +26,29 @@ part-more a i path h k =
     let f : a + (i - a) ≡ i = omega arith in
     let g : i - a < length (drop a path) = rw length-drop (omega arith) in
     rw (e, take-suc (drop a path) (i - a) 0 g, getD-drop, f)
+
+pub part-length : (a e : ℕ) (bs : Bytes) → e ≤ length bs → length (part a e bs) ≡ e - a
+part-length a e bs h = let l = length-drop a bs in length-take-le (e - a) (drop a bs) (omega arith)
+
+drop-taken : (f m : ℕ) (l : Bytes) → f ≤ length l → drop f (take (f + m) l) ≡ take m (drop f l)
+drop-taken f m l h = rw (take-add f m l, drop-at (take f l) (take m (drop f l)) f (length-take-le f l h))
+
+-- a part of a part
+pub part-within : {bs these : Bytes} {a e : ℕ} {r : Part} → a ≤ e → e ≤ length bs → IsPart (part a e bs) these r → IsPart bs these (record { from = a + r .from; to = a + r .to })
+part-within {bs} {these} {a} {e} {r} o h w =
+    let l = part-length a e bs h in
+    let i : r .to ≤ e - a = omega (arith, w .inside) in
+    let n : e - a ≡ r .from + (e - a - r .from) = omega (arith, w .order) in
+    let t : a + r .to - (a + r .from) ≡ r .to - r .from = omega arith in
+    let d : drop (r .from) (part a e bs) ≡ take (e - a - r .from) (drop (a + r .from) bs) =
+    ap (λ (k : ℕ). drop (r .from) (take k (drop a bs))) n
+    ∙ rw (drop-taken (r .from) (e - a - r .from) (drop a bs) (rw length-drop (omega (arith, w .order))), drop-drop)
+    in
+    record {
+      order = omega (arith, w .order);
+      inside = omega arith;
+      is = rw (t, ← w .is, d, take-take (r .to - r .from) (e - a - r .from) (drop (a + r .from) bs) (omega arith));
+    }
 
 -- the last part kept before the place i runs from `from` to `to`, and another has begun at `start`
 pub record Found (path : Bytes) (from to start i : ℕ) : Type 0 where
@@ -66,13 +88,13 @@ module _ {path : Bytes} {from to start i : ℕ} (g : Found path from to start i)
   whole : length path ≤ i → (k : Bool) → k ≡ kept (part start i path) → pick k (part start i path) (part from to path) ≡ lastPart path
   whole h k e = sym (g .left ∙ rw (e, drop-of-length-le path h, append-nil))
 
-  pub ends-kept : length path ≤ i → {k : Bool} → k ≡ kept (part start i path) → k ≡ true → part start i path ≡ lastPart path
+  pub ends-kept : length path ≤ i → {k : Bool} → k ≡ kept (part start i path) → k ≡ true → IsPart path (lastPart path) (record { from = start; to = i })
   unfolding pick
-  ends-kept h k e = whole h true (sym e ∙ k)
+  ends-kept h k e = record { order = g .begun; inside = g .within; is = whole h true (sym e ∙ k) }
 
-  pub ends-left : length path ≤ i → {k : Bool} → k ≡ kept (part start i path) → k ≡ false → part from to path ≡ lastPart path
+  pub ends-left : length path ≤ i → {k : Bool} → k ≡ kept (part start i path) → k ≡ false → IsPart path (lastPart path) (record { from = from; to = to })
   unfolding pick
-  ends-left h k e = whole h false (sym e ∙ k)
+  ends-left h k e = record { order = g .ordered; inside = omega (arith, g .inside, g .within); is = whole h false (sym e ∙ k) }
 
 -- the last dot before the place i is at `best`
 pub record Dotted (p : Bytes) (best i : ℕ) : Type 0 where
@@ -105,19 +127,48 @@ dot-before i best (b ∷ p) h =
     let k : pick (eqb b 46) i best ≤ i = pick-le (eqb b 46) (omega arith) h in
     omega (arith, dot-before (suc i) (pick (eqb b 46) i best) p (omega arith))
 
-pub dot-inside : (p : Bytes) {k : ℕ} → k ≡ lastDot 0 0 p → k ≡ length (take k p)
-dot-inside p {k} e = sym (length-take-le k p (omega (arith, dot-before 0 0 p (omega arith))))
+-- the three answers of `find`, by the last part
+module _ {path : Bytes} {p : Part} (w : IsPart path (lastPart path) p) where
+  pub dot-inside : {k : ℕ} → k ≡ lastDot 0 0 (part (p .from) (p .to) path) → p .from + k ≤ p .to
+  dot-inside d =
+      omega (arith, part-length (p .from) (p .to) path (w .inside), dot-before 0 0 (part (p .from) (p .to) path) (omega arith), w .order)
 
--- the three answers of `stem`
-module _ (path : Bytes) {p : Bytes} (e : p ≡ lastPart path) {b : Bool} (h : b ≡ isParent p) where
-  pub no-stem : b ≡ true → [] ≡ stemOf path
-  unfolding stemOf pick
-  no-stem t = rw (← e, ← h, t)
+  module _ {b : Bool} (h : b ≡ isParent (part (p .from) (p .to) path)) where
+    pub no-stem : b ≡ true → IsPart path (stemOf path) (record { from = p .from; to = p .from })
+    unfolding stemOf pick
+    no-stem t = record { order = omega arith; inside = omega (arith, w .order, w .inside); is = rw (part-none, ← w .is, ← h, t) }
 
-  pub uncut : b ≡ false → {k : ℕ} → k ≡ lastDot 0 0 p → k ≡ 0 → p ≡ stemOf path
-  unfolding stemOf cut pick
-  uncut t d z = rw (← e, ← h, t, eq-eqb _ _ (sym d ∙ z))
+    pub uncut : b ≡ false → {k : ℕ} → k ≡ lastDot 0 0 (part (p .from) (p .to) path) → k ≡ 0 → IsPart path (stemOf path) p
+    unfolding stemOf cut pick
+    uncut t d z = record { order = w .order; inside = w .inside; is = rw (← w .is, ← h, t, eq-eqb _ _ (sym d ∙ z)) }
 
-  pub cut-there : b ≡ false → {k : ℕ} → k ≡ lastDot 0 0 p → (k ≡ 0 → ⊥) → take k p ≡ stemOf path
-  unfolding stemOf cut pick
-  cut-there t d z = rw (← e, ← h, t, ne-eqb _ _ (λ f. z (d ∙ f)), d)
+    pub cut-there : b ≡ false → {k : ℕ} → k ≡ lastDot 0 0 (part (p .from) (p .to) path) → (k ≡ 0 → ⊥) → IsPart path (stemOf path) (record { from = p .from; to = p .from + k })
+    unfolding stemOf cut pick
+    cut-there t {k} d z =
+        let i = dot-inside d in
+        record {
+          order = omega arith;
+          inside = omega (arith, w .inside);
+          is = rw (← w .is, ← h, t, ne-eqb _ _ (λ f. z (d ∙ f)), ← d, add-sub-cancel-left, take-take k (p .to - p .from) (drop (p .from) path) (omega arith));
+        }
+
+-- an import's name is one or the other
+pub either-name : (P : Bytes → Type 0) (path identifier : Bytes) → P (stemOf path) → P identifier → P (importName path identifier)
+unfolding importName
+either-name P path identifier s i = go (eqb (length identifier) 0)
+  where
+    go : (b : Bool) → P (pick b (stemOf path) identifier)
+    go true = unfold pick in s
+    go false = unfold pick in i
+
+module _ (path : Bytes) {bs identifier : Bytes} {p : Part} (w : IsPart bs identifier p) where
+  identifier-length : length identifier ≡ p .to - p .from
+  identifier-length = rw (← w .is) (part-length (p .from) (p .to) bs (w .inside))
+
+  pub identifier-names : p .from < p .to → IsPart bs (importName path identifier) p
+  unfolding importName pick
+  identifier-names h = rw (ne-eqb (length identifier) 0 (λ z. omega (arith, identifier-length))) w
+
+  pub stem-names : p .to ≤ p .from → importName path identifier ≡ stemOf path
+  unfolding importName pick
+  stem-names h = rw (eq-eqb (length identifier) 0 (omega (arith, identifier-length)))

@@ -1,2 +1,3 @@
--- The definition of an import's name.
+-- The definition of an import's name, and parts of bytes.
 pub mod Stem
+pub mod Part

@@ -1,6 +1,7 @@
-// The stem of a path, as Rust's standard library has it on Unix, and the name of an import: a part of its path or of its identifier, never a copy.
+// The stem of a path, as Rust's standard library has it on Unix: a part of the path, never a copy.
 ghost use mathlib.Core.Path.{_≡_};
 ghost use Rattle.stem.specs.Stem.{kept, lastPart, isParent, lastDot, stemOf, importName};
+ghost use Rattle.stem.specs.Part.{IsPart};
 
 // Whether a part counts: it is neither empty nor `.`.
 fn is_kept(part: &[u8]) -> bool
@@ -29,9 +30,15 @@ fn is_parent(part: &[u8]) -> bool
     }
 }
 
+// A part of some bytes, from a place up to another.
+pub struct Part {
+    pub from: usize,
+    pub to: usize,
+}
+
 // The last part that counts, or an empty one.
-fn last_part(path: &[u8]) -> &[u8]
-    ensures { λ r. ⌜ now r ≡ lastPart (now (path .entry)) ⌝ }
+fn last_part(path: &[u8]) -> Part
+    ensures { λ r. ⌜ IsPart (now (path .entry)) (lastPart (now (path .entry))) r ⌝ }
 {
     let mut from = 0;
     let mut to = 0;
@@ -50,9 +57,9 @@ fn last_part(path: &[u8]) -> &[u8]
         }
     }
     if is_kept(&path[start..i]) {
-        return &path[start..i];
+        return Part { from: start, to: i };
     }
-    &path[from..to]
+    Part { from, to }
 }
 
 // The place of the last dot, or 0.
@@ -71,19 +78,34 @@ fn last_dot(part: &[u8]) -> usize
     best
 }
 
+// Where the stem of a path is, an empty part where it has none.
+pub fn find(path: &[u8]) -> Part
+    ensures { λ r. ⌜ IsPart (now (path .entry)) (stemOf (now (path .entry))) r ⌝ }
+{
+    let last = last_part(path);
+    let from = last.from;
+    let to = last.to;
+    if is_parent(&path[from..to]) {
+        return Part { from, to: from };
+    }
+    let dot = last_dot(&path[from..to]);
+    if dot == 0 {
+        return last;
+    }
+    Part {
+        from,
+        to: from + dot,
+    }
+}
+
 // The stem of a path, or an empty part where it has none.
 pub fn stem(path: &[u8]) -> &[u8]
     ensures { λ r. ⌜ now r ≡ stemOf (now (path .entry)) ⌝ }
 {
-    let part = last_part(path);
-    if is_parent(part) {
-        return &part[..0];
-    }
-    let dot = last_dot(part);
-    if dot == 0 {
-        return part;
-    }
-    &part[..dot]
+    let found = find(path);
+    let from = found.from;
+    let to = found.to;
+    &path[from..to]
 }
 
 // The name of an import: its identifier, and where that is empty the stem of its path.

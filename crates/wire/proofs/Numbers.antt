@@ -42,6 +42,10 @@ abbrev pub AllBytes : Bytes → Type 0
 AllBytes [] = Unit {0}
 AllBytes (b ∷ bs) = (b < 256) × AllBytes bs
 
+pub all-bytes : (bs : Bytes) → ((i : ℕ) → getD bs i 0 < 256) → AllBytes bs
+all-bytes [] h = tt
+all-bytes (b ∷ bs) h = (h 0, all-bytes bs λ i. h (suc i))
+
 -- and bytes come back from their number
 pub leBytes-leNumber : (bs : Bytes) → AllBytes bs → leBytes (length bs) (leNumber bs) ≡ bs
 unfolding leBytes leNumber

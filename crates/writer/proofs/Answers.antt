@@ -15,13 +15,13 @@ use Rattle.wire.specs.Put.{Wrote, laid}
 use Rattle.wire.proofs.Laws.{then, adv-is, over-fits, nothing, too-long, fits, written}
 use Rattle.wire.proofs.Numbers.{AllBytes}
 use Rattle.schema.specs.Ast.{Schema}
-use Rattle.schema.specs.Table.{recordsOf}
+use Rattle.schema.specs.Table.{isFramed, recordsOf, mayFollow, isSchemaTable}
 use Rattle.schema.specs.Decode.{declarationsOf, schemaOf, decodeSchema}
 use Rattle.schema.specs.Walk.{recordsFrom}
 use Rattle.schema.specs.Checked.{answerOf, checked}
 use Rattle.schema.specs.declared.Checked.the-variants as check
 use Rattle.schema.proofs.Verdict.{fine}
-use Rattle.text.specs.Text.{isEmpty, importsText, declarationsText, textOf}
+use Rattle.text.specs.Text.{isEmpty, blank, openingText, importsText, declarationsText, textOf}
 use Rattle.text.proofs.Short.{table-short}
 use Rattle.writer.specs.Steps.{Commented, Imported}
 use Rattle.writer.specs.Written.{answerTo, leftBy, Writes}
@@ -32,6 +32,12 @@ pub whole-text : {t : Bytes} {o : Bytes} {to : ℕ} {m : Bytes} {first b : ℕ} 
 unfolding textOf
 whole-text a b w =
     then (then (a .wrote) (rw (← a .imports) at (b .wrote))) (rw (← (ap isEmpty (a .imports) ∙ b .some), ← (a .later ∙ b .later)) at w)
+
+-- an empty table has an empty text
+pub empty : (t o : Bytes) → length t ≡ 0 → Writes t o o (write.Text 0)
+unfolding textOf openingText blank pick laid decodeSchema isSchemaTable isFramed recordsOf mayFollow
+empty [] o z = let l = le-leb 0 (length o) (omega arith) in record { answer = rw l; buffer = rw l }
+empty (b ∷ bs) o z = absurd (omega (arith, z))
 
 -- refused by the check
 refused-by : (o : Bytes) (n : ℕ) (b : Bool) (d : Option Schema) → pick b (check.Refused 1) (answerOf d) ≡ check.Refused n
@@ -63,10 +69,6 @@ module _ (t o : Bytes) {e : Bytes} {need : ℕ} (p : checked t ≡ check.Fine) (
       let l = fits o m k h in
       let v = written o m k h w in
       record { answer = rw (le-ltb 131072 (length t) (f .small), f .decodes, l, v .1); buffer = rw (le-ltb 131072 (length t) (f .small), f .decodes, l) (v .0) }
-
-pub all-bytes : (bs : Bytes) → ((i : ℕ) → getD bs i 0 < 256) → AllBytes bs
-all-bytes [] h = tt
-all-bytes (b ∷ bs) h = (h 0, all-bytes bs λ i. h (suc i))
 
 -- not measured, where four bytes for each byte of the table fit
 pub surely-fits : (t o : Bytes) {o′ : Bytes} {r : ℕ} → checked t ≡ check.Fine → AllBytes t → length o ≤ 18446744073709551615 → length t ≤ length o / 4 → Wrote o 0 (textOf (schemaOf (recordsOf t))) o′ r

@@ -252,10 +252,13 @@ fn write_table(t: &[u8], out: &mut [u8]) -> Written
     write_measured(t, out)
 }
 
-// The canonical text of a schema table, at the start of the buffer.
+// The canonical text of a schema table, at the start of the buffer. An empty table has none.
 pub fn write(t: &[u8], out: &mut [u8]) -> Written
     ensures { λ r. ⌜ Writes (now (t .entry)) (now (out .entry)) (now (out .exit)) r ⌝ }
 {
+    if t.len() == 0 {
+        return Written::Text(0);
+    }
     match schema::check(t) {
         Checked::Refused(number) => Written::Refused(number, 0),
         Checked::Fine => write_table(t, out),

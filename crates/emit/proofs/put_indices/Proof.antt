@@ -12,7 +12,7 @@ sort-requires : tie.Need-sort-requires
 sort-requires c κs = (all-items (c .before .before .before .before .before .before .before .args .t .now) (c .before .before .before .before .before .before .before .args .items .now), c .before .before .before .before .before .before .before .pre .room)
 
 returns-2 : tie.Need-returns-2
-returns-2 c = indices-written (c .before .before .before .before .before .before .before .before .before .before .before .before .before .before .before .before .before .before .before .before .before .args .t .now) (c .before .before .before .before .before .before .before .before .before .before .before .before .before .before .before .before .before .before .before .before .before .args .items .now) (c .before .before .before .before .before .before .before .before .before .before .before .before .before .before .before .before .if1 .left) (c .before .before .before .before .before .before .before .before .before .before .before .before .before .sort .ensures) (c .before .before .before .before .before .before .before .put-head .ensures) (c .before .before .put-numbers .ensures)
+returns-2 c = indices-written (c .before .before .before .before .before .before .before .before .before .before .before .before .before .before .before .before .before .before .before .before .before .args .t .now) (c .before .before .before .before .before .before .before .before .before .before .before .before .before .before .before .before .before .before .before .before .before .args .items .now) (c .before .before .before .before .before .before .before .before .before .before .before .before .before .before .before .before .if1 .left) (c .before .before .before .before .before .before .before .before .before .before .before .before .before .sort .ensures .sorted) (c .before .before .before .before .before .before .before .put-head .ensures) (c .before .before .put-numbers .ensures)
 
 pub put-indices-spec : {M : Type 1} → statement M
 put-indices-spec =

@@ -1,6 +1,6 @@
 -- `identifier::compare_in`: the two forms are alike up to the two places (`Level`), and what is left of the first falls.
 use lib.ListN.{length}
-use Rattle.identifier.proofs.Level.{snakeLeft, Level, start, below, above, same, further, less}
+use Rattle.identifier.proofs.Level.{snakeLeft, Level, level, below, above, same, further, less}
 use borrow.Author.Needs.{needs}
 use Rattle.identifier.proofs.compare_in.Statement.{statement}
 use Rattle.identifier.proofs.compare_in.Tie as tie
@@ -12,7 +12,7 @@ abbrev μ-loop : tie.MeasureT-loop
 μ-loop class lower upper a b i₀ s₀ j₀ t₀ i s j t = length (snakeLeft a i s)
 
 loop-holds : tie.Need-loop-holds Inv-loop μ-loop
-loop-holds c = start _ _
+loop-holds c = level (c .skip-same .ensures)
 
 returns : tie.Need-returns Inv-loop μ-loop
 returns c = search below
@@ -32,4 +32,4 @@ loop-again c = search further
 pub compare-in-spec : {M : Type 1} → statement M
 compare-in-spec =
     tie.close
-    (tie.spec Inv-loop μ-loop loop-holds (λ c κs. search needs) (λ c κs. search needs) (λ c κs. search needs) (λ c κs. search needs) returns returns-2 returns-3 loop-less loop-again)
+    (tie.spec Inv-loop μ-loop (λ c κs. search needs) loop-holds (λ c κs. search needs) (λ c κs. search needs) (λ c κs. search needs) (λ c κs. search needs) returns returns-2 returns-3 loop-less loop-again)

@@ -1,25 +1,37 @@
-use Rattle.sorted.specs.Item.{itemBefore}
-use Rattle.sorted.specs.declared.Key.the-variants.{Name}
-use Rattle.sorted.proofs.Each.{each-sort}
-use Rattle.sorted.proofs.Theorems.{imports-sorted}
-use Rattle.imports.specs.Imports.{NamedHere}
-use Rattle.imports.proofs.Laws.{all-items}
+use Prim.Native.Nat.{_-_}
+use mathlib.Core.Path.{refl}
+use lib.ListN.{length}
+use Rattle.wire.proofs.Laws.{rest-all}
+use Rattle.sorted.proofs.Each.{each-at}
+use Rattle.places.specs.Imports.{NamedHere}
+use Rattle.imports.specs.Imports.{importsAt}
+use Rattle.imports.proofs.Laws.{Writing, wrote-one, wrote-all}
 use borrow.Author.Needs.{needs}
 use Rattle.imports.proofs.put_imports.Statement.{statement}
 use Rattle.imports.proofs.put_imports.Tie as tie
 
-sort-requires : tie.Need-sort-requires
-sort-requires c κs = (all-items _ (c .before .before .before .before .before .before .args .items .now) (c .before .before .before .before .before .before .pre .0), c .before .before .before .before .before .before .pre .1)
+abbrev Inv-loop : tie.InvT-loop
+Inv-loop out₀ o t imports a₀ i₀ out a i = Writing (importsAt t) imports out₀ o out a i
 
-put-each-requires : tie.Need-put-each-requires
-put-each-requires c κs =
-    let t = c .before .before .before .before .before .before .before .before .before .before .before .before .before .args .t .now in
-    rw (c .before .before .before .before .before .before .sort .ensures) (each-sort (NamedHere t) (itemBefore t Name) (c .before .before .before .before .before .before .before .before .before .before .before .before .before .args .items .now) (c .before .before .before .before .before .before .before .before .before .before .before .before .before .pre .0))
+abbrev μ-loop : tie.MeasureT-loop
+μ-loop out₀ o t imports a₀ i₀ out a i = length imports - i
 
-returns : tie.Need-returns
-returns c = rw (c .before .before .before .before .before .before .before .before .before .sort .ensures, imports-sorted (c .before .before .before .before .before .before .before .before .before .before .before .before .before .before .before .before .args .t .now) (c .before .before .before .before .before .before .before .before .before .before .before .before .before .before .before .before .args .items .now)) at (c .before .before .put-each .ensures)
+loop-holds : tie.Need-loop-holds Inv-loop μ-loop
+loop-holds c = record { left = rest-all; size = refl }
+
+put-import-requires : tie.Need-put-import-requires Inv-loop μ-loop
+put-import-requires c κs = each-at (NamedHere (c .before .before .before .before .before .before .before .args .t .now)) (c .before .before .before .before .before .before .before .args .imports .now) (c .before .before .before .loop .i) 0 (c .before .before .before .before .before .before .before .pre) (c .before .before .loop-test .taken)
+
+loop-again : tie.Need-loop-again Inv-loop μ-loop
+loop-again c = wrote-one (c .before .before .before .before .before .before .loop .inv) (c .before .before .before .before .before .loop-test .taken) refl (c .before .before .put-import .ensures)
+
+same-length : tie.Need-same-length Inv-loop μ-loop
+same-length c = c .before .loop .inv .size
+
+returns : tie.Need-returns Inv-loop μ-loop
+returns c = wrote-all (c .before .loop .inv) (c .loop-test .left) refl
 
 pub put-imports-spec : {M : Type 1} → statement M
 put-imports-spec =
     tie.close
-    (tie.spec sort-requires put-each-requires (λ c. search needs) (λ c. search needs) (λ c. search needs) returns)
+    (tie.spec Inv-loop μ-loop loop-holds (λ c. search needs) (λ c. search needs) put-import-requires (λ c. search needs) (λ c. search needs) loop-again same-length returns)

@@ -4,41 +4,47 @@ use borrow.Author.Needs.{needs}
 use denote.Ref.{now}
 use Rattle.token.proofs.Laws.{part-from}
 use Rattle.token.proofs.Walk.{wf-few}
-use Rattle.reader.proofs.Laws.{passed, stopped}
+use Rattle.reader.proofs.Laws.{nothing-read, passed, stopped}
 use Rattle.reader.proofs.read_from.Statement.{statement}
 use Rattle.reader.proofs.read_from.Tie as tie
 
-read-small-requires : tie.Need-read-small-requires
-read-small-requires c κs = let p = passed (c .before .before .before .before .before .check .ensures) (c .before .before .before .checked2 .given .1) in (p .0, omega (arith, p .1))
-
 returns : tie.Need-returns
 returns c =
-    let a = c .before .before .before .before .before .before .before .before .before .before .before .before .args in
-    rw (part-from (now (a .table)) (a .at)) at (c .before .before .read-small .ensures)
+    let a = c .before .before .before .before .before .before .before .before .args in
+    let p = passed (c .before .before .before .before .check .ensures) (c .before .before .checked2 .given .1) in
+    rw (part-from (now (a .table)) (a .at)) at (nothing-read _ (now (a .out)) (p .0) (omega (arith, p .1, c .if1 .taken)))
 
-read-medium-requires : tie.Need-read-medium-requires
-read-medium-requires c κs = let p = passed (c .before .before .before .before .before .before .check .ensures) (c .before .before .before .before .checked2 .given .1) in (p .0, omega (arith, p .1))
+read-small-requires : tie.Need-read-small-requires
+read-small-requires c κs = let p = passed (c .before .before .before .before .before .before .check .ensures) (c .before .before .before .before .checked2 .given .1) in (p .0, omega (arith, p .1))
 
 returns-2 : tie.Need-returns-2
 returns-2 c =
     let a = c .before .before .before .before .before .before .before .before .before .before .before .before .before .args in
-    rw (part-from (now (a .table)) (a .at)) at (c .before .before .read-medium .ensures)
+    rw (part-from (now (a .table)) (a .at)) at (c .before .before .read-small .ensures)
 
-read-large-requires : tie.Need-read-large-requires
-read-large-requires c κs = let p = passed (c .before .before .before .before .before .before .check .ensures) (c .before .before .before .before .checked2 .given .1) in (p .0, wf-few (p .0 .wf))
+read-medium-requires : tie.Need-read-medium-requires
+read-medium-requires c κs = let p = passed (c .before .before .before .before .before .before .before .check .ensures) (c .before .before .before .before .before .checked2 .given .1) in (p .0, omega (arith, p .1))
 
 returns-3 : tie.Need-returns-3
 returns-3 c =
-    let a = c .before .before .before .before .before .before .before .args in
-    rw (part-from (now (a .table)) (a .at)) at (stopped (now (a .out)) (c .before .before .before .check .ensures) (c .before .checked .given .1))
+    let a = c .before .before .before .before .before .before .before .before .before .before .before .before .before .before .args in
+    rw (part-from (now (a .table)) (a .at)) at (c .before .before .read-medium .ensures)
+
+read-large-requires : tie.Need-read-large-requires
+read-large-requires c κs = let p = passed (c .before .before .before .before .before .before .before .check .ensures) (c .before .before .before .before .before .checked2 .given .1) in (p .0, wf-few (p .0 .wf))
 
 returns-4 : tie.Need-returns-4
 returns-4 c =
-    let a = c .before .before .before .before .before .before .before .before .before .before .before .before .before .args in
+    let a = c .before .before .before .before .before .before .before .args in
+    rw (part-from (now (a .table)) (a .at)) at (stopped (now (a .out)) (c .before .before .before .check .ensures) (c .before .checked .given .1))
+
+returns-5 : tie.Need-returns-5
+returns-5 c =
+    let a = c .before .before .before .before .before .before .before .before .before .before .before .before .before .before .args in
     rw (part-from (now (a .table)) (a .at)) at (c .before .before .read-large .ensures)
 
 pub read-from-spec : {M : Type 1} → statement M
 read-from-spec =
     tie.close
-    (tie.spec (λ c. search needs) (λ c. search needs) (λ c. search needs) (λ c κs. search needs) (λ c. search needs) (λ c. search needs) read-small-requires (λ c. search needs) returns
-    read-medium-requires (λ c. search needs) returns-2 read-large-requires returns-3 (λ c. search needs) returns-4)
+    (tie.spec (λ c. search needs) (λ c. search needs) (λ c. search needs) (λ c κs. search needs) (λ c. search needs) (λ c. search needs) returns read-small-requires (λ c. search needs) returns-2
+    read-medium-requires (λ c. search needs) returns-3 read-large-requires returns-4 (λ c. search needs) returns-5)

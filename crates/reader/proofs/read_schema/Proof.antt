@@ -18,9 +18,9 @@ use Rattle.reader.proofs.read_schema.Tie as tie
 
 returns : tie.Need-returns
 returns c =
-    let a = c .before .before .before .before .before .before .before .before .before .before .before .before .before .before .before .args in
+    let a = c .before .before .before .before .before .before .before .before .before .before .before .before .before .before .before .before .args in
     let o = now (a .out) in
-    let p = c .before .before .before .before .before .before .before .before .before .before .before .before .before .before .before .pre in
+    let p = c .before .before .before .before .before .before .before .before .before .before .before .before .before .before .before .before .pre in
     let k : length o < 18446744073709551615 = omega arith in
     let ts = tokensFrom (now (a .t)) 0 in
     let bs = encodeSchema (schemaOf (parseSchema ts .value)) in
@@ -29,20 +29,20 @@ returns c =
 
 returns-2 : tie.Need-returns-2
 returns-2 c =
-    let a = c .before .before .before .before .before .before .before .before .before .before .before .before .before .before .before .before .args in
+    let a = c .before .before .before .before .before .before .before .before .before .before .before .before .before .before .before .before .before .args in
     let o = now (a .out) in
     let m = c .before .before .before .before .before .before .before .emit2 .ensures in
     let k : length o < 18446744073709551615 = omega arith in
-    let p = c .before .before .before .before .before .before .before .before .before .before .before .before .before .before .before .before .pre in
+    let p = c .before .before .before .before .before .before .before .before .before .before .before .before .before .before .before .before .before .pre in
     rw (measured.nothing o m) (too-long (now (a .t)) o (p .decodes) (parse-schema _ (p .none)) (measured.too-long o m k (c .if2 .taken)))
 
 returns-3 : tie.Need-returns-3
 returns-3 c =
-    let a = c .before .before .before .before .before .before .before .before .before .before .before .before .before .before .before .before .before .before .before .before .before .before .before .before .before .before .args in
+    let a = c .before .before .before .before .before .before .before .before .before .before .before .before .before .before .before .before .before .before .before .before .before .before .before .before .before .before .before .args in
     let o = now (a .out) in
     let m = c .before .before .before .before .before .before .before .before .before .before .before .before .before .before .before .before .before .emit2 .ensures in
     let k : length o < 18446744073709551615 = omega arith in
-    let p = c .before .before .before .before .before .before .before .before .before .before .before .before .before .before .before .before .before .before .before .before .before .before .before .before .before .before .pre in
+    let p = c .before .before .before .before .before .before .before .before .before .before .before .before .before .before .before .before .before .before .before .before .before .before .before .before .before .before .before .pre in
     let f = c .before .before .before .before .before .before .before .before .before .before .if2 .left in
     schema-written (now (a .t)) o (p .decodes) (p .none) (measured.fits o m k f) (measured.written o m k f (c .before .before .before .before .before .before .emit3 .ensures))
 

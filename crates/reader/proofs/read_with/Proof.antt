@@ -1,38 +1,20 @@
--- `reader::read_with` meets its contract: collecting leaves the buffer as it was where there are no errors, and they fit where each token has room for one.
-use Prim.Native.Nat.{_<_}
-use native.Mathlib.Omega.{arith}
-use lib.ListN.{length}
+-- `reader::read_with` meets its contract: the first items are the imports in order.
+use mathlib.Core.Path.{sym}
+use lib.Seq.{length-take-le}
 use borrow.Author.Needs.{needs}
-use borrow.Author.Tests.{le-leb}
-use denote.Ref.{now}
-use Rattle.token.specs.Places.{tokensFrom}
-use Rattle.reader.proofs.Laws.{errors-written, errors-none, errors-some, errors-fit, untouched, landed}
 use Rattle.reader.proofs.read_with.Statement.{statement}
 use Rattle.reader.proofs.read_with.Tie as tie
 
-read-schema-requires : tie.Need-read-schema-requires
-read-schema-requires c κs =
-    let p = c .before .before .before .before .before .before .before .before .before .before .before .before .before .before .before .before .before .before .before .before .pre in
-    let none = errors-none _ (c .before .before .before .before .before .before .before .before .before .before .before .collect .ensures .number) (c .before .before .before .if2 .taken) in
-    record { decodes = p .checked .decodes; wf = p .checked .wf; none = none; list = search needs; work = search needs }
+order-imports-requires : tie.Need-order-imports-requires
+order-imports-requires c κs = let p = c .before .before .before .before .before .before .before .pre in (p .checked .wf, record { list = p .order; work = p .work })
 
-returns-2 : tie.Need-returns-2
-returns-2 c =
-    let e = c .before .before .before .before .before .before .before .before .before .before .before .before .before .before .before .before .before .before .collect .ensures in
-    rw (untouched _ (e .wrote) (e .number) (c .before .before .before .before .before .before .before .before .before .before .if2 .taken)) at (c .before .before .before .before .before .before .read-schema .ensures)
+slice-aggregate-read-ordered : tie.Need-slice-aggregate-read-ordered
+slice-aggregate-read-ordered c = sym (length-take-le _ _ (c .before .before .before .before .before .before .order-imports .ensures .few))
 
-returns-3 : tie.Need-returns-3
-returns-3 c =
-    let a = c .before .before .before .before .before .before .before .before .before .before .before .before .before .before .before .before .before .args in
-    let o = now (a .out) in
-    let p = c .before .before .before .before .before .before .before .before .before .before .before .before .before .before .before .before .before .pre in
-    let k : length o < 18446744073709551615 = omega arith in
-    let e = c .before .before .before .before .before .before .before .before .collect .ensures in
-    let f = errors-fit (tokensFrom (now (a .t)) 0) (length (now (a .items))) o (p .list) (c .before .before .before .before .before .before .before .before .before .before .before .before .if1 .left) in
-    errors-written (now (a .t)) o (p .checked .decodes) (errors-some _ (e .number) (c .if2 .left)) (le-leb _ _ f) (landed o _ k f (e .wrote))
+read-ordered-requires : tie.Need-read-ordered-requires
+read-ordered-requires c κs =
+    let p = c .before .before .before .before .before .before .before .before .before .before .before .before .before .before .before .before .pre in
+    record { checked = p .checked; orders = c .before .before .before .before .before .before .before .before .order-imports .ensures .orders; list = p .list; work = search needs }
 
 pub read-with-spec : {M : Type 1} → statement M
-read-with-spec =
-    tie.close
-    (tie.spec (λ c κs. search needs) (λ c. search needs) (λ c. search needs) (λ c. search needs) (λ c. search needs) (λ c κs. search needs) read-schema-requires
-    (λ c. search needs) (λ c. search needs) (λ c. search needs) returns-2 (λ c. search needs) (λ c. search needs) (λ c. search needs) returns-3)
+read-with-spec = tie.close (tie.spec order-imports-requires (λ c. search needs) slice-aggregate-read-ordered read-ordered-requires (λ c. search needs) (λ c. search needs) (λ c. search needs) (λ c. search needs) (λ c. search needs))

@@ -1,5 +1,6 @@
 use native.Mathlib.Omega.{arith}
-use Rattle.records.proofs.Laws.{all-bytes, comment-there, comment-absent}
+use Rattle.wire.proofs.Numbers.{all-bytes}
+use Rattle.records.proofs.Laws.{comment-there, comment-absent}
 use borrow.Author.Needs.{needs}
 use Rattle.records.proofs.comment_at.Statement.{statement}
 use Rattle.records.proofs.comment_at.Tie as tie

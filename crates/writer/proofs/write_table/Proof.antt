@@ -4,7 +4,8 @@ use native.Mathlib.Omega.{arith}
 use denote.Ref.{now}
 use lib.ListN.{length}
 use Rattle.schema.proofs.Verdict.{fine}
-use Rattle.writer.proofs.Answers.{all-bytes, surely-fits}
+use Rattle.wire.proofs.Numbers.{all-bytes}
+use Rattle.writer.proofs.Answers.{surely-fits}
 use Rattle.writer.proofs.write_table.Statement.{statement}
 use Rattle.writer.proofs.write_table.Tie as tie
 

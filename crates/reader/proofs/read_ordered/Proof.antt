@@ -1,0 +1,36 @@
+-- `reader::read_ordered` meets its contract: collecting leaves the buffer as it was where there are no errors, and they fit where each token has room
+-- for one.
+use Prim.Native.Nat.{_<_}
+use native.Mathlib.Omega.{arith}
+use lib.ListN.{length}
+use borrow.Author.Needs.{needs}
+use borrow.Author.Tests.{le-leb}
+use denote.Ref.{now}
+use Rattle.token.specs.Places.{tokensFrom}
+use Rattle.reader.proofs.Laws.{judgeable, clean, errors-written, errors-some, errors-fit, untouched, landed}
+use Rattle.reader.proofs.read_ordered.Statement.{statement}
+use Rattle.reader.proofs.read_ordered.Tie as tie
+
+read-schema-requires : tie.Need-read-schema-requires
+read-schema-requires c κs = clean (c .before .before .before .before .before .before .before .before .before .before .before .before .before .before .before .before .before .before .before .before .before .pre) (c .before .before .before .before .before .before .before .before .before .before .before .collect .ensures .number) (c .before .before .before .if2 .taken) (search needs) (search needs)
+
+returns-2 : tie.Need-returns-2
+returns-2 c =
+    let e = c .before .before .before .before .before .before .before .before .before .before .before .before .before .before .before .before .before .before .collect .ensures in
+    rw (untouched _ (e .wrote) (e .number) (c .before .before .before .before .before .before .before .before .before .before .if2 .taken)) at (c .before .before .before .before .before .before .read-schema .ensures)
+
+returns-3 : tie.Need-returns-3
+returns-3 c =
+    let a = c .before .before .before .before .before .before .before .before .before .before .before .before .before .before .before .before .before .before .args in
+    let o = now (a .out) in
+    let p = c .before .before .before .before .before .before .before .before .before .before .before .before .before .before .before .before .before .before .pre in
+    let k : length o < 18446744073709551615 = omega arith in
+    let e = c .before .before .before .before .before .before .before .before .collect .ensures in
+    let f = errors-fit (tokensFrom (now (a .t)) 0) (length (now (a .items))) o (p .list) (c .before .before .before .before .before .before .before .before .before .before .before .before .if1 .left) in
+    errors-written (now (a .t)) o (p .checked .decodes) (errors-some _ (e .number) (c .if2 .left)) (le-leb _ _ f) (landed o _ k f (e .wrote))
+
+pub read-ordered-spec : {M : Type 1} → statement M
+read-ordered-spec =
+    tie.close
+    (tie.spec (λ c κs. search needs) (λ c. search needs) (λ c. search needs) (λ c. search needs) (λ c. search needs) (λ c κs. judgeable (c .before .before .before .before .before .before .before .before .before .pre) (search needs) (search needs)) read-schema-requires
+    (λ c. search needs) (λ c. search needs) (λ c. search needs) returns-2 (λ c. search needs) (λ c. search needs) (λ c. search needs) returns-3)
