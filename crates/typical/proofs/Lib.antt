@@ -1,0 +1,2 @@
+-- An answer is told by its case.
+pub mod Told
