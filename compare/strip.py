@@ -2,7 +2,8 @@
 """strip.py OUT.rs CRATE..: the Rattle source of the crates without its contracts, a Rust module for each crate, for rustc.
 
 The crates that these need, by crates.txt, come along. What the prover showed stays true of the stripped source: only `ghost`
-lines, `requires` and `ensures` are taken out, and plain data is made `Copy`. Run it from anywhere.
+lines, `requires` and `ensures` are taken out, plain data is made `Copy`, and a function with a large array stays a function. Run
+it from anywhere.
 """
 import pathlib
 import re
@@ -35,8 +36,16 @@ def made_copy(text):
     return re.sub(r"^(pub )?(struct|enum) \w+", derive, text, flags=re.M)
 
 
+def kept_apart(text):
+    """rustc touches each page of a frame at its begin: a large array that is inlined would cost every call of the function around it."""
+    def apart(match):
+        sizes = [int(size) for size in re.findall(r"= \[\w+; (\d+)\];", match.group(0))]
+        return "#[inline(never)]\n" * (max(sizes, default=0) >= 1_024) + match.group(0)
+    return re.sub(r"^(pub )?fn .*?^}\n", apart, text, flags=re.M | re.S)
+
+
 def module(path, crates):
-    text = made_copy(without_clauses(path.read_text()))
+    text = kept_apart(made_copy(without_clauses(path.read_text())))
     for crate in crates:
         text = re.sub(rf"(?<![\w:]){crate}::", f"crate::{crate}::", text)
     def inner(match):

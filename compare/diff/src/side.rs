@@ -27,6 +27,7 @@ pub struct Side {
 pub fn named(name: &str) -> Option<Side> {
     match name {
         "ours" => crate::ours::side(),
+        "library" => crate::library::side(),
         "paper" => Some(Side { name: "paper", read: paper_read, write: paper_write }),
         "judge" => Some(Side { name: "judge", read: judge_read, write: judge_write }),
         _ => FAULTY.into_iter().find(|side| side.name == name),

@@ -24,20 +24,46 @@ pub fn all() -> Vec<(&'static str, Vec<u8>)> {
     ]
 }
 
-/// What `all` has in reverse order, in a random order. They stand apart, since
-/// the seeded cases draw from `all`.
-pub fn shuffled() -> Vec<(&'static str, Vec<u8>)> {
-    let mut numbers: Vec<usize> = (0..2_048).collect();
+/// Tables that take long to put in order or to search for repeats. They stand
+/// apart, since the seeded cases draw from `all`.
+pub fn unordered() -> Vec<(&'static str, Vec<u8>)> {
+    let imports = imports(shuffled(2_048).map(|number| format!("m{number:04}.t")));
+    let indices: Vec<u64> = shuffled(3_200).map(|index| index as u64).collect();
+    let alike = "p".repeat(100);
+    let long = shuffled(480).map(|number| format!("{alike}{number:04}.t"));
+    let pairs = shuffled(3_200).map(|index| index as u64 / 2);
+    vec![
+        ("imports-repeated", finish(with_copy(&imports, 3_001, 4_001))),
+        ("imports-random", finish(imports)),
+        ("imports-long", finish(self::imports(long))),
+        ("deleted-repeated", finish(deleted(with_copy(&indices, 1_001, 3_001)))),
+        ("deleted-random", finish(deleted(indices))),
+        ("deleted-pairs", finish(deleted(pairs))),
+    ]
+}
+
+fn imports(paths: impl Iterator<Item = String>) -> Vec<Tok> {
+    paths.flat_map(|path| [bare(IMPORT), Tok::path(path)]).collect()
+}
+
+fn deleted(indices: impl IntoIterator<Item = u64>) -> Vec<Tok> {
+    let mut tokens = open("A");
+    tokens.push(bare(DELETED));
+    tokens.extend(indices.into_iter().map(Tok::integer));
+    tokens.push(bare(RIGHT_CURLY));
+    tokens
+}
+
+fn with_copy<T: Clone>(list: &[T], from: usize, to: usize) -> Vec<T> {
+    let mut list = list.to_vec();
+    list[to] = list[from].clone();
+    list
+}
+
+fn shuffled(count: usize) -> impl Iterator<Item = usize> {
+    let mut numbers: Vec<usize> = (0..count).collect();
     shuffle(&mut numbers);
-    let import = |number| [bare(IMPORT), Tok::path(format!("m{number:04}.t"))];
-    let imports: Vec<Tok> = numbers.into_iter().flat_map(import).collect();
-    let mut indices: Vec<u64> = (0..3_200).collect();
-    shuffle(&mut indices);
-    let mut deleted = open("A");
-    deleted.push(bare(DELETED));
-    deleted.extend(indices.into_iter().map(Tok::integer));
-    deleted.push(bare(RIGHT_CURLY));
-    vec![("imports-random", finish(imports)), ("deleted-random", finish(deleted))]
+    numbers.into_iter()
 }
 
 fn shuffle<T>(list: &mut [T]) {
@@ -174,18 +200,11 @@ pub fn all_errors(count: usize) -> Vec<Tok> {
 }
 
 pub fn imports_reversed(count: usize) -> Vec<Tok> {
-    (0..count)
-        .rev()
-        .flat_map(|number| [bare(IMPORT), Tok::path(format!("m{number:04}.t"))])
-        .collect()
+    imports((0..count).rev().map(|number| format!("m{number:04}.t")))
 }
 
 pub fn deleted_reversed(count: u64) -> Vec<Tok> {
-    let mut tokens = open("A");
-    tokens.push(bare(DELETED));
-    tokens.extend((0..count).rev().map(Tok::integer));
-    tokens.push(bare(RIGHT_CURLY));
-    tokens
+    deleted((0..count).rev())
 }
 
 /// Names of 128 capitals, whose snake forms have 255 bytes.
