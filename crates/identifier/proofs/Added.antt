@@ -13,10 +13,11 @@ use Rattle.wire.specs.Bytes.{Bytes}
 use Rattle.wire.specs.Pick.{pick}
 use Rattle.wire.specs.Put.{Wrote}
 use Rattle.wire.proofs.Laws.{then, wrote-none, Rest, rest-all, rest-step, rest-none, wrote-length}
-use Rattle.identifier.specs.Byte.{isUpper, isBreak, lowerOf, upperOf}
+use Rattle.identifier.specs.Byte.{isUpper, isPlain, isBreak, lowerOf, upperOf}
 use Rattle.identifier.specs.Forms.{joined}
 use Rattle.identifier.specs.Words.{wordsOf}
 use Rattle.identifier.specs.Left.{firstBy, laterBy, leftOf, added, stateAfter}
+use Rattle.identifier.proofs.Bytes.{plain-is, lower-plain}
 use Rattle.identifier.proofs.Words.{joined-begin, later-begin, in-capital, in-plain}
 use Rattle.identifier.proofs.Left.{left-break, left-none}
 
@@ -42,6 +43,17 @@ module _ (up bar : Bool) (state b : ℕ) where
     pub added-later : (state ≡ 1 → ⊥) → (state ≡ 0 → ⊥) → added up bar state b ≡ laterBy bar b
     unfolding added pick
     added-later s z = rw (e, ne-eqb state 1 s, ne-eqb state 0 z)
+
+-- a small letter or a digit stands in a snake form as it is, behind `_` where a later word begins
+abbrev pub lead : ℕ → Bytes
+lead zero = []
+lead (suc zero) = []
+lead (suc (suc s)) = 95 ∷ []
+
+pub added-itself : (state b : ℕ) → isPlain b ≡ true → added false true state b ≡ lead state ++ (b ∷ [])
+added-itself zero b e = let p = plain-is b e in added-first false true 0 b (p .0) refl ∙ rw (lower-plain b (p .1))
+added-itself (suc zero) b e = let p = plain-is b e in added-plain false true 1 b (p .0) refl (p .1) ∙ rw (lower-plain b (p .1))
+added-itself (suc (suc s)) b e = let p = plain-is b e in added-later false true (suc (suc s)) b (p .0) (λ z. omega arith) (λ z. omega arith) ∙ rw (lower-plain b (p .1))
 
 after-word : (state b : ℕ) → isBreak b ≡ false → stateAfter state b ≡ 1
 unfolding stateAfter pick

@@ -1,12 +1,12 @@
 -- Letters and breaks: what a byte's lower and upper forms are.
-use mathlib.Core.Path.{_≡_, refl, ap, sym, _∙_}
+use mathlib.Core.Path.{_≡_, refl, sym, _∙_}
 use mathlib.Core.Bool.{Bool, true, false, _||_, _&&_}
-use Prim.Native.Nat.{ℕ, _+_, _-_, _≤_, _<_}
+use Prim.Native.Nat.{ℕ, _-_, _≤_, _<_}
 use native.Mathlib.Omega.{arith}
-use lib.Dec.{leb, eqb}
+use lib.Dec.{leb}
 use borrow.Author.Tests.{le-leb, lt-leb, leb-true, leb-false, ne-eqb}
 use Rattle.wire.specs.Pick.{pick}
-use Rattle.identifier.specs.Byte.{within, isUpper, isLower, isLetter, isBreak, lowerOf, upperOf}
+use Rattle.identifier.specs.Byte.{within, isUpper, isLower, isLetter, isPlain, isBreak, lowerOf, upperOf}
 
 -- a byte lies in a range or outside of it
 data Lies (lo hi b : ℕ) : Type 0 where
@@ -35,16 +35,33 @@ past-range lo hi b h = go (leb lo b)
 no-break : (b : ℕ) → (b ≡ 95 → ⊥) → (b ≡ 45 → ⊥) → isBreak b ≡ false
 no-break b h k = rw (ne-eqb b 95 h, ne-eqb b 45 k)
 
+pub never : {A : Type 0} → false ≡ true → A
+never e = let z : _≡_ {A = ℕ} 0 1 = cc in absurd (omega arith)
+
 pub upper-no-break : (b : ℕ) → isUpper b ≡ true → isBreak b ≡ false
 upper-no-break b e =
     elim (lies 65 90 b) [
       | inside h k q ↦ no-break b (λ z. omega arith) (λ z. omega arith)
-      | below h q ↦ apart (cc)
-      | above h q ↦ apart (cc)
+      | below h q ↦ never (sym q ∙ e)
+      | above h q ↦ never (sym q ∙ e)
+    ]
+
+-- a small letter or a digit is neither a break nor a capital
+pub plain-is : (b : ℕ) → isPlain b ≡ true → (isBreak b ≡ false) × (isUpper b ≡ false)
+plain-is b e =
+    elim (lies 97 122 b) [
+      | inside h k q ↦ (no-break b (λ z. omega arith) (λ z. omega arith), past-range 65 90 b (omega arith))
+      | below h q ↦ digit q
+      | above h q ↦ digit q
     ]
   where
-    apart : _≡_ {A = ℕ} 0 1 → isBreak b ≡ false
-    apart z = absurd (omega arith)
+    digit : isLower b ≡ false → (isBreak b ≡ false) × (isUpper b ≡ false)
+    digit q =
+        elim (lies 48 57 b) [
+          | inside h k p ↦ (no-break b (λ z. omega arith) (λ z. omega arith), rw (lt-leb 65 b (omega arith)))
+          | below h p ↦ never (rw (q, p) at e)
+          | above h p ↦ never (rw (q, p) at e)
+        ]
 
 -- only a small letter has another upper form, a capital, which has the same lower form
 module _ (b : ℕ) where

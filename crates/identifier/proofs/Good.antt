@@ -1,7 +1,6 @@
 -- A name is good byte by byte: those before a place are printable, and the test of those from there on is the test of all.
-use mathlib.Core.Path.{_≡_, refl, sym, _∙_}
-use mathlib.Core.Bool.{Bool, true, false, _&&_}
-use mathlib.Core.List.{List, [], _∷_}
+use mathlib.Core.Path.{_≡_, sym, _∙_}
+use mathlib.Core.Bool.{Bool, true, false, and-false, and-eq-true-iff}
 use Prim.Native.Nat.{ℕ, _+_, _<_, _≤_}
 use native.Mathlib.Numerals.{add-one}
 use native.Mathlib.Omega.{arith}
@@ -13,15 +12,6 @@ use Rattle.wire.specs.Bytes.{Bytes}
 use Rattle.identifier.specs.Byte.{within, isPrintable}
 use Rattle.identifier.specs.Name.{all, isName}
 
--- both of two tests
-pub and-inv : {x y : Bool} → (x && y) ≡ true → (x ≡ true) × (y ≡ true)
-and-inv {x = true} e = (refl, e)
-and-inv {x = false} e = let z : _≡_ {A = ℕ} 0 1 = cc in absurd (omega arith)
-
-and-false : (x : Bool) → false ≡ (x && false)
-and-false true = refl
-and-false false = refl
-
 pub record Good (name : Bytes) (i : ℕ) : Type 0 where
   pub left : all isPrintable name ≡ all isPrintable (drop i name)
 
@@ -31,7 +21,7 @@ module _ {name : Bytes} {i : ℕ} (g : Good name i) (h : i < length name) {k : B
 
   pub bad : k ≡ false → false ≡ isName name
   unfolding isName
-  bad t = let n : all isPrintable name ≡ false = g .left ∙ rw (drop-cons name i 0 h, ← e, t) in rw n (and-false (within 1 128 (length name)))
+  bad t = let n : all isPrintable name ≡ false = g .left ∙ rw (drop-cons name i 0 h, ← e, t) in rw (n, and-false)
 
 -- the other three answers of `is_name`
 module _ (name : Bytes) where
@@ -50,5 +40,5 @@ module _ (name : Bytes) where
   pub name-short : isName name ≡ true → length name ≤ 128
   unfolding isName
   name-short e =
-      let sized : within 1 128 (length name) ≡ true = and-inv {x = within 1 128 (length name)} {y = all isPrintable name} e .0 in
-      leb-true (length name) 128 (and-inv {x = leb 1 (length name)} {y = leb (length name) 128} sized .1)
+      let sized : within 1 128 (length name) ≡ true = and-eq-true-iff (within 1 128 (length name)) (all isPrintable name) .0 e .0 in
+      leb-true (length name) 128 (and-eq-true-iff (leb 1 (length name)) (leb (length name) 128) .0 sized .1)

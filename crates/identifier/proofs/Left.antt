@@ -1,7 +1,7 @@
 -- What is left of a form goes on by one byte of it, or by one byte of the name.
 use mathlib.Core.Path.{_≡_, refl, ap, sym, _∙_}
 use mathlib.Core.Bool.{Bool, true, false, _||_, _&&_}
-use mathlib.Core.List.{List, [], _∷_, _++_, map}
+use mathlib.Core.List.{[], _∷_}
 use Prim.Native.Nat.{ℕ, zero, suc, _+_, _-_, _<_, _≤_}
 use native.Mathlib.Numerals.{add-one}
 use native.Mathlib.Omega.{arith}
@@ -12,9 +12,9 @@ use borrow.Author.Tests.{ne-eqb}
 use Rattle.wire.specs.Bytes.{Bytes}
 use Rattle.wire.specs.Pick.{pick}
 use Rattle.identifier.specs.Byte.{isUpper, isBreak, lowerOf, upperOf}
-use Rattle.identifier.specs.Forms.{joined, low, up, barLow, laterWords}
+use Rattle.identifier.specs.Forms.{low, up, barLow, laterWords}
 use Rattle.identifier.specs.Words.{wordsOf}
-use Rattle.identifier.specs.Left.{firstBy, laterBy, inWord, leftOf, headOf, tailOf, gives, codeOf, Follows}
+use Rattle.identifier.specs.Left.{firstBy, laterBy, leftOf, headOf, tailOf, gives, Follows}
 use Rattle.identifier.specs.declared.Next.{Next}
 use Rattle.identifier.proofs.Words.{words-break, words-begin, joined-begin, later-begin, in-break, in-capital, in-plain}
 

@@ -1,8 +1,8 @@
 -- How long a form is: at most two bytes for each byte of the name, less one.
-use mathlib.Core.Path.{_≡_, refl, ap}
-use mathlib.Core.Bool.{Bool, true, false}
-use mathlib.Core.List.{List, [], _∷_, _++_}
-use Prim.Native.Nat.{ℕ, zero, suc, _+_, _*_, _-_, _≤_}
+use mathlib.Core.Path.{_≡_, refl}
+use mathlib.Core.Bool.{Bool, true, false, and-eq-true-iff}
+use mathlib.Core.List.{[], _∷_}
+use Prim.Native.Nat.{ℕ, _*_, _-_, _≤_}
 use native.Mathlib.Omega.{arith}
 use lib.ListN.{length, length-append}
 use Rattle.wire.specs.Bytes.{Bytes}
@@ -12,7 +12,6 @@ use Rattle.identifier.specs.Words.{wordsOf}
 use Rattle.identifier.specs.Forms.{low, barLow, joined, laterWords, snakeOf}
 use Rattle.identifier.specs.Left.{inWord, firstBy, laterBy}
 use Rattle.identifier.proofs.Bytes.{upper-no-break}
-use Rattle.identifier.proofs.Good.{and-inv}
 use Rattle.identifier.proofs.Words.{words-break, joined-begin, later-begin, in-break, in-capital, in-plain}
 
 module _ (g : ℕ → Bytes) (few : (b : ℕ) → length (g b) ≤ 2) where
@@ -60,12 +59,12 @@ form-short up bar = joined-short (laterBy bar) (few bar) (firstBy up) (one up)
 in-capitals : (bs : Bytes) → all isUpper bs ≡ true → length (inWord barLow bs) ≡ 2 * length bs
 in-capitals [] e = refl
 in-capitals (b ∷ bs) e =
-    let i = and-inv e in
+    let i = and-eq-true-iff (isUpper b) (all isUpper bs) .0 e in
     rw (in-capital b bs barLow (upper-no-break b (i .0)) (i .0)) (omega (arith, in-capitals bs (i .1)))
 
 pub capitals-long : (name : Bytes) → all isUpper name ≡ true → length (snakeOf name) ≡ 2 * length name - 1
 unfolding snakeOf
 capitals-long [] e = refl
 capitals-long (b ∷ bs) e =
-    let i = and-inv e in
+    let i = and-eq-true-iff (isUpper b) (all isUpper bs) .0 e in
     rw (joined-begin b bs barLow low (upper-no-break b (i .0))) (omega (arith, in-capitals bs (i .1)))

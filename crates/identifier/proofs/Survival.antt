@@ -1,9 +1,9 @@
 -- A name survives printing exactly when every word after the first begins with a letter: where one begins with another byte, the snake case of the
 -- Pascal form is shorter than the name's own, and else the two are one.
-use mathlib.Core.Path.{_≡_, refl, ap, sym, _∙_}
+use mathlib.Core.Path.{_≡_, refl, ap, _∙_}
 use mathlib.Core.Bool.{Bool, true, false, _&&_}
-use mathlib.Core.List.{List, [], _∷_, _++_}
-use Prim.Native.Nat.{ℕ, suc, _<_}
+use mathlib.Core.List.{[], _∷_}
+use Prim.Native.Nat.{ℕ, _<_}
 use native.Mathlib.Omega.{arith}
 use lib.ListN.{length}
 use Rattle.wire.specs.Bytes.{Bytes}
@@ -15,7 +15,7 @@ use Rattle.identifier.specs.Left.{inWord}
 use Rattle.identifier.specs.Order.{sameName}
 use Rattle.identifier.specs.Survive.{begins, laterBegin, survives}
 use Rattle.identifier.proofs.Bytes.{lower-upper, upper-letter, upper-break, lower-plain}
-use Rattle.identifier.proofs.Words.{piece-break, piece-capital, piece-plain, words-break, words-begin, joined-begin, later-begin, in-break, in-capital, in-plain}
+use Rattle.identifier.proofs.Words.{piece-break, piece-capital, piece-plain, words-break, words-begin, joined-begin, in-break, in-capital, in-plain}
 use Rattle.identifier.proofs.Total.{same-snake, snake-same}
 
 data Prints (s n : Bytes) : Bool → Type 0 where

@@ -1,9 +1,9 @@
 -- The theorems on document 01's "Names". Each is stated here, and proved in the file that its proof cites.
-use mathlib.Core.Path.{_≡_, refl, ap, _∙_}
+use mathlib.Core.Path.{_≡_, refl}
 use mathlib.Core.Bool.{true, false}
 use mathlib.Core.List.{[], _∷_, _++_}
 use mathlib.Core.Logic.{_↔_}
-use Prim.Native.Nat.{_-_, _*_, _≤_}
+use Prim.Native.Nat.{_-_, _≤_}
 use native.Mathlib.Omega.{arith}
 use lib.ListN.{length}
 use Rattle.wire.specs.Bytes.{Bytes, bytes}
@@ -12,10 +12,10 @@ use Rattle.identifier.specs.Byte.{isUpper, lowerOf, upperOf}
 use Rattle.identifier.specs.Name.{all}
 use Rattle.identifier.specs.Words.{wordsOf}
 use Rattle.identifier.specs.Forms.{snakeOf, camelOf, pascalOf}
-use Rattle.identifier.specs.Order.{orderOf, nameOrder, isBefore, sameName}
+use Rattle.identifier.specs.Order.{nameOrder, isBefore, sameName}
 use Rattle.identifier.specs.Join.{joinOf}
 use Rattle.identifier.specs.Survive.{survives, laterBegin}
-use Rattle.identifier.specs.declared.Order.the-variants.{Less, Equal, Greater}
+use Rattle.identifier.specs.declared.Order.the-variants.{Less, Equal}
 use Rattle.identifier.proofs.Words.{words-join}
 use Rattle.identifier.proofs.Length.{form-short, capitals-long}
 use Rattle.identifier.proofs.Total.{flip, order-refl, order-flip, order-zero, order-trans}

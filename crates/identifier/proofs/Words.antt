@@ -1,7 +1,7 @@
 -- The words of a name, a byte at a time: a break is passed over, any other byte begins or goes on with a word.
 use mathlib.Core.Path.{_≡_, refl, ap, _∙_}
 use mathlib.Core.Bool.{Bool, true, false}
-use mathlib.Core.List.{List, [], _∷_, _++_, map, append-assoc}
+use mathlib.Core.List.{List, [], _∷_, _++_, append-assoc}
 use Prim.Native.Nat.{ℕ}
 use Rattle.wire.specs.Bytes.{Bytes}
 use Rattle.identifier.specs.Byte.{isUpper, isBreak, lowerOf}

@@ -1,7 +1,7 @@
 -- Document 01, "Names" and the payload rules: what a byte is, its class, and its lower and upper form.
 -- ASCII's letters move by 32; every other byte, above 0x7E too, is its own lower and upper form.
 use Prim.Native.Nat.{ℕ, _+_, _-_}
-use mathlib.Core.Bool.{Bool, true, false, _||_, _&&_, not}
+use mathlib.Core.Bool.{Bool, _||_, _&&_, not}
 use lib.Dec.{leb, eqb}
 use Rattle.wire.specs.Pick.{pick}
 
@@ -19,6 +19,10 @@ isLetter b = isUpper b || isLower b
 
 abbrev pub isDigit : ℕ → Bool
 isDigit b = within 48 57 b
+
+-- what stands in a snake form as it is
+abbrev pub isPlain : ℕ → Bool
+isPlain b = isLower b || isDigit b
 
 -- `_` and `-`, at which a name breaks
 abbrev pub isBreak : ℕ → Bool

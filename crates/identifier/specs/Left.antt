@@ -2,10 +2,10 @@
 -- where the `_` before a later word is written and the word is not.
 use mathlib.Core.Path.{_≡_}
 use mathlib.Core.Bool.{Bool, true, false}
-use mathlib.Core.List.{List, [], _∷_, _++_, map}
+use mathlib.Core.List.{[], _∷_, _++_, map}
 use Prim.Native.Nat.{ℕ, zero, suc, _+_}
 use lib.Dec.{eqb}
-use lib.ListN.{drop}
+use lib.ListN.{getD, drop}
 use Rattle.wire.specs.Bytes.{Bytes}
 use Rattle.wire.specs.Pick.{pick}
 use Rattle.identifier.specs.Byte.{isBreak, isUpper, lowerOf}
@@ -40,6 +40,11 @@ added up bar state b =
 
 unfoldable pub stateAfter : ℕ → ℕ → ℕ
 stateAfter state b = pick (isBreak b) (pick (eqb state 1) 2 state) 1
+
+-- the state at a place of a name
+abbrev pub stateTo : Bytes → ℕ → ℕ
+stateTo name zero = 0
+stateTo name (suc at) = stateAfter (stateTo name at) (getD name at 0)
 
 -- 0 where nothing is left, else one more than the first byte; and what follows that byte
 abbrev pub headOf : Bytes → ℕ

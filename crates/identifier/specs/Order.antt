@@ -1,14 +1,15 @@
 -- Document 01, "Names": equality and order are those of the snake forms, by bytes.
 use mathlib.Core.Path.{_≡_}
 use mathlib.Core.Bool.{Bool, true, false}
-use mathlib.Core.List.{List, [], _∷_}
+use mathlib.Core.List.{[], _∷_}
+use Prim.Native.Nat.{ℕ, _<_, _≤_}
 use lib.Dec.{ltb}
-use lib.ListN.{drop}
+use lib.ListN.{length, getD, drop}
 use Rattle.wire.specs.Bytes.{Bytes}
 use Rattle.wire.specs.Pick.{pick}
+use Rattle.identifier.specs.Byte.{isPlain}
 use Rattle.identifier.specs.Forms.{low, barLow, snakeOf}
-use Rattle.identifier.specs.Left.{leftOf}
-use Rattle.identifier.specs.declared.Place.{Place}
+use Rattle.identifier.specs.Left.{leftOf, stateTo}
 use Rattle.identifier.specs.declared.Order.{Order}
 use Rattle.identifier.specs.declared.Order.the-variants.{Less, Equal, Greater}
 
@@ -39,6 +40,19 @@ isBefore a b = isLess (nameOrder a b)
 unfoldable pub sameName : Bytes → Bytes → Bool
 sameName a b = isEqual (nameOrder a b)
 
--- what is left of two names at a place decides their order
-pub record SameTo (a b : Bytes) (r : Place) : Type 0 where
-  pub left : orderOf (leftOf low barLow (r .state) (drop (r .at) a)) (leftOf low barLow (r .state) (drop (r .at) b)) ≡ nameOrder a b
+-- of two bytes that differ
+abbrev pub byteOrder : ℕ → ℕ → Order
+byteOrder x y = pick (ltb x y) Less Greater
+
+-- what is left of two names at a place decides their order, and the bytes there differ
+pub record SameTo (a b : Bytes) (at : ℕ) : Type 0 where
+  pub left : orderOf (leftOf low barLow (stateTo a at) (drop at a)) (leftOf low barLow (stateTo a at) (drop at b)) ≡ nameOrder a b
+  pub inside : at ≤ length a
+  pub apart : at < length a → at < length b → getD a at 0 ≡ getD b at 0 → ⊥
+
+-- a place of both names, where their bytes stand in the forms as they are
+pub record Decided (a b : Bytes) (at : ℕ) : Type 0 where
+  pub first : at < length a
+  pub second : at < length b
+  pub plain : isPlain (getD a at 0) ≡ true
+  pub plain′ : isPlain (getD b at 0) ≡ true

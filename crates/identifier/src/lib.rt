@@ -1,15 +1,17 @@
 // The names of schemas, after identifier.rs: the forms of a name and the order of two names.
 pub mod tables;
 
+use tables::breaks;
 use tables::class_table;
 use tables::is_break;
+use tables::is_plain;
 use tables::is_upper;
 use tables::lower_in;
 use tables::lower_table;
 use tables::upper_in;
 use tables::upper_table;
 ghost use mathlib.Core.Path.{_≡_};
-ghost use mathlib.Core.Bool.{false, _||_, _&&_};
+ghost use mathlib.Core.Bool.{true, false, _||_, _&&_};
 ghost use Prim.Native.Nat.{_+_, _≤_, _<_};
 ghost use lib.Dec.{eqb};
 ghost use lib.ListN.{length, getD, take};
@@ -17,10 +19,10 @@ ghost use Rattle.wire.specs.Pick.{pick};
 ghost use Rattle.wire.specs.Put.{Wrote};
 ghost use Rattle.identifier.specs.Byte.{isBreak, isUpper, classOf, lowerOf, upperOf};
 ghost use Rattle.identifier.specs.Table.{table, Tables};
-ghost use Rattle.identifier.specs.Left.{firstBy, laterBy, added, stateAfter, gives, codeOf, Follows};
+ghost use Rattle.identifier.specs.Left.{firstBy, laterBy, added, stateAfter, stateTo, gives, codeOf, Follows};
 ghost use Rattle.identifier.specs.Words.{wordsOf};
 ghost use Rattle.identifier.specs.Forms.{joined, snakeOf, camelOf, pascalOf, IsForm};
-ghost use Rattle.identifier.specs.Order.{nameOrder, sameName, SameTo};
+ghost use Rattle.identifier.specs.Order.{nameOrder, sameName, byteOrder, SameTo, Decided};
 
 // The next byte of a form, unless it ends; `at` and `state` are where the rest of it begins.
 struct Next {
@@ -264,11 +266,10 @@ fn put_next(
     put_later(out, at, lower, upper, b, bar)
 }
 
-fn state_after(class: &[u8; 256], b: u8, state: u8) -> u8
-    requires { ⌜ now class ≡ table classOf ⌝ }
+fn state_after(b: u8, state: u8) -> u8
     ensures { λ r. ⌜ r ≡ stateAfter state b ⌝ }
 {
-    if is_break(class, b) {
+    if breaks(b) {
         return after_break(state);
     }
     1
@@ -287,7 +288,7 @@ fn put_form(out: &mut [u8], at: usize, name: &[u8], up: bool, bar: bool) -> usiz
     while i < name.len() {
         let b = name[i];
         a = put_next(out, a, &class, &lower, &upper, b, up, bar, state);
-        state = state_after(&class, b, state);
+        state = state_after(b, state);
         i += 1;
     }
     a
@@ -323,49 +324,77 @@ fn code(next: Next) -> u16
     0
 }
 
-// A place of a name, and the state there.
-struct Place {
-    at: usize,
-    state: u8,
-}
-
 // Past the bytes that two names begin with in common: so far their forms are the same.
-fn skip_same(class: &[u8; 256], a: &[u8], b: &[u8]) -> Place
-    requires { ⌜ now class ≡ table classOf ⌝ }
+fn skip_same(a: &[u8], b: &[u8]) -> usize
     ensures { λ r. ⌜ SameTo (now (a .entry)) (now (b .entry)) r ⌝ }
 {
     let mut at: usize = 0;
-    let mut state: u8 = 0;
     while at < a.len() {
         if at < b.len() {
             if a[at] == b[at] {
-                state = state_after(class, a[at], state);
                 at += 1;
                 continue;
             }
         }
         break;
     }
-    Place { at, state }
+    at
 }
 
-// The order of two names. The snake forms are compared byte by byte, up to the first difference, and neither is built; the tables are lent, so
-// that a caller who compares many names makes them once.
-pub fn compare_in(
+// The state at a place of a name.
+fn state_to(name: &[u8], at: usize) -> u8
+    requires { ⌜ at ≤ length (now name) ⌝ }
+    ensures { λ r. ⌜ r ≡ stateTo (now (name .entry)) at ⌝ }
+{
+    let mut i: usize = 0;
+    let mut state: u8 = 0;
+    while i < at {
+        state = state_after(name[i], state);
+        i += 1;
+    }
+    state
+}
+
+// Whether the first bytes that differ decide: both stand in the forms as they are, behind the same.
+fn is_decided(a: &[u8], b: &[u8], at: usize) -> bool
+    ensures { λ r. ⌜ (r ≡ true → Decided (now (a .entry)) (now (b .entry)) at) ⌝ }
+{
+    if a.len() <= at {
+        return false;
+    }
+    if b.len() <= at {
+        return false;
+    }
+    is_plain(a[at]) & is_plain(b[at])
+}
+
+// The order of two bytes that differ.
+fn order_of(x: u8, y: u8) -> Order
+    ensures { λ r. ⌜ r ≡ byteOrder x y ⌝ }
+{
+    if x < y {
+        return Order::Less;
+    }
+    Order::Greater
+}
+
+// The snake forms from a place on, compared byte by byte up to the first difference; neither is built.
+fn compare_from(
     class: &[u8; 256],
     lower: &[u8; 256],
     upper: &[u8; 256],
     a: &[u8],
     b: &[u8],
+    at: usize,
 ) -> Order
-    requires { ⌜ Tables (now class) (now lower) (now upper) ⌝ }
+    requires { ⌜ Tables (now class) (now lower) (now upper) × SameTo (now a) (now b) at ⌝ }
     ensures { λ r. ⌜ r ≡ nameOrder (now (a .entry)) (now (b .entry)) ⌝ }
 {
-    let same = skip_same(class, a, b);
-    let mut i = same.at;
-    let mut s = same.state;
-    let mut j = same.at;
-    let mut t = same.state;
+    let state = state_to(a, at);
+    let mut i = at;
+    let mut s = state;
+    let mut j = at;
+    let mut t = state;
     loop {
         let x = next_byte(class, lower, upper, a, false, true, i, s);
         let y = next_byte(class, lower, upper, b, false, true, j, t);
@@ -387,13 +416,36 @@ pub fn compare_in(
     }
 }
 
+// The order of two names, which is that of their snake forms. The tables are lent, so that a caller who compares many names makes them once.
+pub fn compare_in(
+    class: &[u8; 256],
+    lower: &[u8; 256],
+    upper: &[u8; 256],
+    a: &[u8],
+    b: &[u8],
+) -> Order
+    requires { ⌜ Tables (now class) (now lower) (now upper) ⌝ }
+    ensures { λ r. ⌜ r ≡ nameOrder (now (a .entry)) (now (b .entry)) ⌝ }
+{
+    let at = skip_same(a, b);
+    if is_decided(a, b, at) {
+        return order_of(a[at], b[at]);
+    }
+    compare_from(class, lower, upper, a, b, at)
+}
+
+// Making the tables costs more than most comparisons, so they are made only where the first difference does not decide.
 pub fn compare(a: &[u8], b: &[u8]) -> Order
     ensures { λ r. ⌜ r ≡ nameOrder (now (a .entry)) (now (b .entry)) ⌝ }
 {
+    let at = skip_same(a, b);
+    if is_decided(a, b, at) {
+        return order_of(a[at], b[at]);
+    }
     let class = class_table();
     let lower = lower_table();
     let upper = upper_table();
-    compare_in(&class, &lower, &upper, a, b)
+    compare_from(&class, &lower, &upper, a, b, at)
 }
 
 pub fn same(a: &[u8], b: &[u8]) -> bool

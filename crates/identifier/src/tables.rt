@@ -1,6 +1,7 @@
-// Byte tables: each byte's class and its lower and upper form. A caller makes a table once and lends it to the functions that read it.
+// Byte tables: each byte's class and its lower and upper form. A caller makes a table once and lends it to the functions that read it. Two tests
+// of a byte need none.
 ghost use mathlib.Core.Path.{_≡_};
-ghost use Rattle.identifier.specs.Byte.{isPrintable, isBreak, isUpper, classOf, lowerOf, upperOf};
+ghost use Rattle.identifier.specs.Byte.{isPrintable, isBreak, isUpper, isPlain, classOf, lowerOf, upperOf};
 ghost use Rattle.identifier.specs.Table.{table};
 ghost use Rattle.identifier.specs.Name.{isName};
 
@@ -118,6 +119,20 @@ pub(crate) fn is_upper(class: &[u8; 256], b: u8) -> bool
     ensures { λ r. ⌜ r ≡ isUpper b ⌝ }
 {
     class_in(class, b) == 8
+}
+
+// `_` and `-`
+pub(crate) fn breaks(b: u8) -> bool
+    ensures { λ r. ⌜ r ≡ isBreak b ⌝ }
+{
+    (b == b'_') | (b == b'-')
+}
+
+// Whether a byte stands in a snake form as it is: a small letter or a digit.
+pub(crate) fn is_plain(b: u8) -> bool
+    ensures { λ r. ⌜ r ≡ isPlain b ⌝ }
+{
+    ((b'a' <= b) & (b <= b'z')) | ((b'0' <= b) & (b <= b'9'))
 }
 
 // Whether these are 1 to 128 printable bytes.

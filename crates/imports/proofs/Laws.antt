@@ -12,6 +12,7 @@ use Rattle.wire.specs.Pick.{pick}
 use Rattle.wire.specs.Put.{Wrote}
 use Rattle.wire.specs.Record.{recordBytes}
 use Rattle.wire.proofs.Laws.{Rest, rest-step, rest-none, wrote-length}
+use Rattle.stem.proofs.Laws.{either-name}
 use Rattle.token.specs.Token.{Token}
 use Rattle.token.specs.Payload.{isPayload}
 use Rattle.token.specs.Places.{tokAt, nextAt, tokensFrom, Wf}
@@ -25,6 +26,7 @@ use Rattle.grammar.specs.Error.{kindAt}
 use Rattle.grammar.specs.Reading.{fail, parseImport}
 use Rattle.grammar.proofs.Rules.{fail≢ok}
 use Rattle.grammar.proofs.Imports.{import-sound}
+use Rattle.grammar.proofs.Stems.{stem-short}
 use Rattle.parser.specs.Trees as places
 use Rattle.parser.specs.Steps.{past, Stands, Reads, ImportPassed}
 use Rattle.parser.specs.declared.Cursor.{Cursor}
@@ -35,7 +37,6 @@ use Rattle.sorted.proofs.Items.{import-read}
 use Rattle.places.specs.Imports.{NamedHere}
 use Rattle.records.proofs.Laws as records
 use Rattle.imports.specs.Imports.{meaningAt, encodeImport}
-use Rattle.imports.proofs.Names.{name-short}
 
 alias-short : {t : Bytes} {at : ℕ} (keyword : Token) (b : Bool) → Stands t at → IfAny WfAlias (places.when b (record { keyword = keyword; name = tokAt t at }))
     → length (aliasOf (places.when b (record { keyword = keyword; name = tokAt t at }))) ≤ 128
@@ -68,8 +69,9 @@ module _ {t : Bytes} {x at : ℕ} (e : at ≡ placeOf x) (w : NamedHere t x) whe
 
     name-fits : length (foundName (importAt t (placeOf x))) ≤ 128
     name-fits =
+        let path = tokAt t (i .path) .payload in
         rw tree-is
-        (name-short 128 (tokAt t (i .path) .payload) (aliasOf (places.importAt t i .alias)) path-fits
+        (either-name (λ n. length n ≤ 128) path (aliasOf (places.importAt t i .alias)) (omega (arith, stem-short path, path-fits))
         (alias-short (tokAt t (nextAt t (i .path))) (i .aliased) (p .stands .last) (wf .alias)))
 
     module _ {name path : Bytes} (n : name ≡ foundName (importAt t (placeOf x))) (h : path ≡ tokAt t (i .path) .payload) where

@@ -1,3 +1,2 @@
 -- Laws of imports.
-pub mod Names
 pub mod Laws

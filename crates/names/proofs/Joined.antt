@@ -1,6 +1,6 @@
 -- Two names and their joined name: its length, and its three parts written one after the other.
 use mathlib.Core.Path.{_≡_, refl, ap, sym, _∙_}
-use mathlib.Core.Bool.{Bool, true, false, _&&_}
+use mathlib.Core.Bool.{Bool, true, false, _&&_, and-eq-true-iff}
 use mathlib.Core.List.{List, [], _∷_, _++_, append-assoc}
 use Prim.Native.Nat.{ℕ, suc, _+_, _<_, _≤_}
 use native.Mathlib.Omega.{arith}
@@ -12,7 +12,6 @@ use Rattle.wire.specs.Put.{Wrote}
 use Rattle.wire.proofs.Laws.{parts, then}
 use Rattle.identifier.specs.Name.{isName}
 use Rattle.identifier.specs.Join.{joinOf}
-use Rattle.identifier.proofs.Good.{and-inv}
 use Rattle.names.specs.Answer.{Answers, isJoinable}
 use Rattle.names.specs.declared.Answer.{Answer}
 use Rattle.names.specs.declared.Answer.the-variants.{Written, Refused}
@@ -41,7 +40,7 @@ module _ (a b : Bytes) where
 
   pub join-short : {k : Bool} → k ≡ isJoinable a b → k ≡ true → length a + length b ≤ 127
   unfolding isJoinable
-  join-short e t = leb-true (length a + length b) 127 (fits-same ∙ and-inv {x = isName a && isName b} {y = leb (length (joinOf a b)) 128} (sym e ∙ t) .1)
+  join-short e t = leb-true (length a + length b) 127 (fits-same ∙ and-eq-true-iff (isName a && isName b) (leb (length (joinOf a b)) 128) .0 (sym e ∙ t) .1)
 
   pub join-too-big : {o : Bytes} → length o < length a + 1 + length b → Answers true (joinOf a b) o o (Refused 8 0)
   join-too-big {o} h = too-big (joinOf a b) o (rw join-length h)

@@ -1,6 +1,6 @@
 -- Relativizing: two namespaces are walked together while their names are the same, and the names after the common start are counted.
 use mathlib.Core.Path.{_≡_, refl, ap, ap₂, sym, _∙_}
-use mathlib.Core.Bool.{Bool, true, false, _&&_}
+use mathlib.Core.Bool.{Bool, true, false, _&&_, and-eq-true-iff}
 use mathlib.Core.List.{List, [], _∷_, _++_}
 use Prim.Native.Nat.{ℕ, zero, suc, _+_, _-_, _<_, _≤_}
 use native.Mathlib.Omega.{arith}
@@ -10,7 +10,6 @@ use Rattle.wire.specs.Bytes.{Bytes}
 use Rattle.wire.specs.Pick.{pick}
 use Rattle.wire.specs.Le.{leAt, u16At}
 use Rattle.identifier.specs.Order.{sameName}
-use Rattle.identifier.proofs.Good.{and-inv}
 use Rattle.names.specs.Answer.{answerOf, bufferOf, withSteps, Answers, Relatives}
 use Rattle.names.specs.declared.Answer.{Answer}
 use Rattle.names.specs.declared.Relative.{Relative}
@@ -145,4 +144,4 @@ module _ {good k : Bool} (e : k ≡ good) where
   relative-bad bs o up f = let q = sym e ∙ f in record { answer = rw q; buffer = rw q }
 
 pub both-good : (x y : Bool) {k : Bool} → k ≡ (x && y) → k ≡ true → (x ≡ true) × (y ≡ true)
-both-good x y e t = and-inv {x = x} {y = y} (sym e ∙ t)
+both-good x y e t = and-eq-true-iff x y .0 (sym e ∙ t)

@@ -1,6 +1,6 @@
 -- A namespace that passed the check, name by name: what stands at a place, and what stands after it.
 use mathlib.Core.Path.{_≡_, refl, ap, sym, _∙_}
-use mathlib.Core.Bool.{Bool, true, false, _&&_}
+use mathlib.Core.Bool.{Bool, true, false, _&&_, and-eq-true-iff}
 use mathlib.Core.List.{List, [], _∷_, _++_}
 use Prim.Native.Nat.{ℕ, zero, suc, _+_, _-_, _<_, _≤_}
 use native.Mathlib.Numerals.{sub-one}
@@ -13,7 +13,7 @@ use Rattle.wire.specs.Bytes.{Bytes}
 use Rattle.wire.specs.Le.{leAt, u16At}
 use Rattle.wire.specs.Pick.{pick}
 use Rattle.identifier.specs.Name.{isName}
-use Rattle.identifier.proofs.Good.{and-inv, name-short}
+use Rattle.identifier.proofs.Good.{name-short}
 use Rattle.names.specs.Namespace.{firstName, afterName, startsName, areNames, isNamespace, namesIn, namesOf, afterNames}
 use Rattle.names.specs.Place.{nameAt, endOf}
 
@@ -54,8 +54,8 @@ starts : (bs : Bytes) → startsName bs ≡ true → (2 + u16At bs 0 ≤ length 
 unfolding startsName firstName
 starts bs e =
     let n : ℕ = u16At bs 0 in
-    let both = and-inv {x = leb 2 (length bs)} {y = leb (2 + n) (length bs) && isName (take n (drop 2 bs))} e .1 in
-    let i = and-inv {x = leb (2 + n) (length bs)} {y = isName (take n (drop 2 bs))} both in
+    let both = and-eq-true-iff (leb 2 (length bs)) (leb (2 + n) (length bs) && isName (take n (drop 2 bs))) .0 e .1 in
+    let i = and-eq-true-iff (leb (2 + n) (length bs)) (isName (take n (drop 2 bs))) .0 both in
     let room : 2 + n ≤ length bs = leb-true (2 + n) (length bs) (i .0) in
     (room, omega (arith, name-short (take n (drop 2 bs)) (i .1), length-take n (drop 2 bs), length-drop 2 bs))
 

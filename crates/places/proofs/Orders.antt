@@ -1,13 +1,13 @@
 -- What the imports in order tell, for judging them and for writing them.
 use Prim.Native.Nat.{ℕ}
 use mathlib.Core.Path.{_≡_, refl, sym, ap, ap₂, _∙_}
-use mathlib.Core.Bool.{Bool, true, false, not, _||_, Bool·not-not}
+use mathlib.Core.Bool.{Bool, true, false, not, _||_, Bool·not-not, and-eq-true-iff}
 use mathlib.Core.List.{List, [], _∷_, map, map-map}
+use mathlib.Mathlib.Data.Bool.Basic.{or-eq-false-eq-eq-false-and-eq-false as or-eq-false-iff}
 use Rattle.wire.specs.Bytes.{Bytes}
 use Rattle.wire.specs.Pick.{pick}
 use Rattle.token.specs.Kind.{kImport}
 use Rattle.token.specs.Places.{tokAt}
-use Rattle.schema.proofs.Records.{both}
 use Rattle.grammar.specs.Tree.{ImportTree, Is, All}
 use Rattle.grammar.specs.Sort.{sortBy}
 use Rattle.grammar.specs.Meaning.{importOf, comesBefore}
@@ -19,11 +19,11 @@ use Rattle.sorted.specs.Sorted.{anyNext, anyTaken, Repeats}
 use Rattle.sorted.specs.declared.Key.the-variants.{Name}
 use Rattle.sorted.proofs.Each.{each-sort}
 use Rattle.sorted.proofs.Mapped.{sort-map, any-map}
-use Rattle.sorted.proofs.Marking.{no-seconds, seconds-repeat}
 use Rattle.sorted.proofs.Theorems.{repeat-taken}
-use Rattle.places.specs.Imports.{NamedHere, lacksName, inOrder, Orders}
+use Rattle.places.specs.Imports.{NamedHere, lacksName, Orders}
 use Rattle.places.specs.declared.Ordered.{Ordered}
-use Rattle.places.proofs.Walk.{treeAt, importsAfter, neither, walk-items, walk-keywords, walk-value, walk-rest, walk-sound, walk-clear}
+use Rattle.places.proofs.Arranging.{told}
+use Rattle.places.proofs.Walk.{treeAt, importsAfter, walk-items, walk-keywords, walk-value, walk-rest, walk-sound, walk-clear}
 
 not-true : {b : Bool} → not b ≡ true → b ≡ false
 not-true {b} h = sym (Bool·not-not b) ∙ ap not h
@@ -42,25 +42,19 @@ module _ (t : Bytes) where
   unfolding itemBefore
   trees-sorted xs = rw (map-map importOf (treeAt t) xs) (sort-map (λ (x : ℕ). importOf (treeAt t x)) comesBefore xs)
 
-  told : (b : Bool) (xs : List ℕ) → Items t Name xs → b ≡ anyNext (sameItem t Name) (sortBy (itemBefore t Name) xs) → Repeats t Name xs (pick b (inOrder t b xs) [])
-  unfolding pick
-  told true xs w q = seconds-repeat t Name xs w
-  told false xs w q = rw (no-seconds (sameItem t Name) (sortBy (itemBefore t Name) xs) (sym q)) at (seconds-repeat t Name xs w)
-
   each-named : (xs : List ℕ) → All (λ x. Is kImport (tokAt t (placeOf x))) xs → Items t Name xs → anyOf (lacksName t) xs ≡ false → All (NamedHere t) xs
   unfolding lacksName IsItem
   each-named [] k i n = tt
   each-named (x ∷ xs) k i n =
-      let n′ = neither (lacksName t x) (anyOf (lacksName t) xs) n in
+      let n′ = or-eq-false-iff (lacksName t x) (anyOf (lacksName t) xs) .0 n in
       (record { keyword = k .0; item = i .0; named = n′ .0 }, each-named xs (k .1) (i .1) (n′ .1))
 
 module _ {t : Bytes} {imports : List ℕ} {r : Ordered} (o : Orders t imports r) where
   abbrev pub reading : ℕ → Reading (List ImportTree)
   reading end = importsAfter t (r .from .at) end []
 
-  -- where none repeats an earlier one no item is needed to tell
   pub orders-told : Repeats t Name (o .items) (pick (r .repeated) imports [])
-  orders-told = rw (o .list) (told t (r .repeated) (o .items) (walk-items (o .walk)) (o .repeat))
+  orders-told = rw (o .list) (told t Name (r .repeated) (o .items) (walk-items (o .walk)) (o .repeat))
 
   module _ (end : ℕ) where
     pub orders-rest : reading end .rest ≡ ahead t (r .next)
@@ -68,8 +62,8 @@ module _ {t : Bytes} {imports : List ℕ} {r : Ordered} (o : Orders t imports r)
 
     pub orders-fine : r .sound ≡ true → reading end .errors ≡ []
     orders-fine s =
-        let a = both (o .whole) _ (sym (o .sound) ∙ s) in
-        let b = both _ (not (r .repeated)) (a .1) in
+        let a = and-eq-true-iff (o .whole) _ .0 (sym (o .sound) ∙ s) in
+        let b = and-eq-true-iff _ (not (r .repeated)) .0 (a .1) in
         walk-sound (o .walk) end [] (a .0) (not-true (b .0)) (trees-taken t (o .items) ∙ sym (o .repeat) ∙ not-true (b .1))
 
     module _ (e : reading end .errors ≡ []) where

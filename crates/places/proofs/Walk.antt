@@ -1,8 +1,9 @@
 -- What the reading of the imports gives, by the walk over them.
 use Prim.Native.Nat.{ℕ, _≤_, _<_}
 use mathlib.Core.Path.{_≡_, refl, ap, ap₂, _∙_}
-use mathlib.Core.Bool.{Bool, true, false, _||_, true≢false, false≢true}
+use mathlib.Core.Bool.{Bool, true, false, false≢true}
 use mathlib.Core.List.{List, [], _∷_, _++_, map}
+use mathlib.Mathlib.Data.Bool.Basic.{or-eq-false-eq-eq-false-and-eq-false as or-eq-false-iff}
 use native.Mathlib.Omega.{arith}
 use lib.Dec.{eqb}
 use lib.ListN.{length}
@@ -32,10 +33,6 @@ treeAt t x = importAt t (placeOf x)
 
 abbrev pub importsAfter : Bytes → ℕ → ℕ → List ImportTree → Reading (List ImportTree)
 importsAfter t at end before = parseImports (length (tokensFrom t at)) end before (tokensFrom t at)
-
-pub neither : (a b : Bool) → (a || b) ≡ false → (a ≡ false) × (b ≡ false)
-neither true b e = absurd (true≢false e)
-neither false b e = (refl, e)
 
 -- a list of at most one error, by a test
 no-error : (b : Bool) (e : Error) → b ≡ false → pick b (e ∷ []) [] ≡ []
@@ -108,8 +105,8 @@ module _ {t : Bytes} where
   walk-sound (none {at = at} e) end before b n r = ap (λ r. r .errors) (ended end before (tokensFrom t at) e)
   walk-sound (read {next = next} {x = x} {xs = xs} k l i e v h w) end before b n r =
       let tree = treeAt t x in
-      let n′ = neither (isNameless tree) (anyOf (lacksName t) xs) n in
-      let r′ = neither (anyOf (sameImport tree) before) (anyTaken sameImport (tree ∷ before) (map (treeAt t) xs)) r in
+      let n′ = or-eq-false-iff (isNameless tree) (anyOf (lacksName t) xs) .0 n in
+      let r′ = or-eq-false-iff (anyOf (sameImport tree) before) (anyTaken sameImport (tree ∷ before) (map (treeAt t) xs)) .0 r in
       let range = importOf tree .range in
       let none-here : importErrors before tree ≡ [] = ap₂ _++_ (no-error _ (errorOver 14 range) (n′ .0)) (no-error _ (errorOver 15 range) (r′ .0)) in
       ap (λ r. r .errors) (one-read k end before next l i e) ∙ ap₂ _++_ none-here (walk-sound w end (tree ∷ before) b (n′ .1) (r′ .1))

@@ -5,7 +5,6 @@ use mathlib.Core.Bool.{Bool, true, false, not, _&&_}
 use mathlib.Core.List.{List, [], _∷_}
 use lib.ListN.{length, take}
 use Rattle.wire.specs.Bytes.{Bytes}
-use Rattle.wire.specs.Pick.{pick}
 use Rattle.token.specs.Kind.{kImport}
 use Rattle.token.specs.Token.{Token}
 use Rattle.token.specs.Places.{tokAt, nextAt, tokensFrom, Wf}
@@ -21,10 +20,10 @@ use Rattle.parser.specs.declared.Cursor.{Cursor}
 use Rattle.parser.specs.declared.Skip.{Skip}
 use Rattle.records.specs.Here.{CommentHere}
 use Rattle.sorted.specs.Item.{importAt, placeOf, itemBefore, sameItem, IsToken, IsImport, IsNamed, NamedAt}
-use Rattle.sorted.specs.Sorted.{anyNext, seconds}
+use Rattle.sorted.specs.Sorted.{anyNext}
 use Rattle.sorted.specs.declared.Key.the-variants.{Name}
+use Rattle.places.specs.Places.{inOrder}
 use Rattle.places.specs.declared.Walked.{Walked}
-use Rattle.places.specs.declared.Arranged.{Arranged}
 use Rattle.places.specs.declared.Ordered.{Ordered}
 
 -- two lent lists have room for a place of each token
@@ -71,17 +70,6 @@ pub record Walks (t : Bytes) (from : Cursor) (items : List ℕ) (r : Walked) : T
   pub sound : r .sound ≡ (whole && not (anyOf (lacksName t) (take (r .count) items)))
   pub wf : Wf t (r .next .at)
 
--- items in order or, where two are the same, those that are the same as the one in front of them
-abbrev pub inOrder : Bytes → Bool → List ℕ → List ℕ
-inOrder t repeated xs = pick repeated (seconds (sameItem t Name) (sortBy (itemBefore t Name) xs)) (sortBy (itemBefore t Name) xs)
-
--- the first n items are put in order
-pub record Arranges (t : Bytes) (n : ℕ) (items items′ : List ℕ) (r : Arranged) : Type 0 where
-  pub few : r .count ≤ n
-  pub size : length items′ ≡ length items
-  pub repeat : r .repeated ≡ anyNext (sameItem t Name) (sortBy (itemBefore t Name) (take n items))
-  pub list : take (r .count) items′ ≡ inOrder t (r .repeated) (take n items)
-
 -- the imports past the schema's comment, in order; r is sound where there is no error in them
 pub record Orders (t : Bytes) (imports : List ℕ) (r : Ordered) : Type 0 where
   pub opening : Opening t (record { there = r .comment; next = r .from })
@@ -90,7 +78,7 @@ pub record Orders (t : Bytes) (imports : List ℕ) (r : Ordered) : Type 0 where
   pub walk : Imports t (r .from .at) whole items (r .next .at)
   pub repeat : r .repeated ≡ anyNext (sameItem t Name) (sortBy (itemBefore t Name) items)
   pub sound : r .sound ≡ (whole && (not (anyOf (lacksName t) items) && not (r .repeated)))
-  pub list : imports ≡ inOrder t (r .repeated) items
+  pub list : imports ≡ inOrder t Name (r .repeated) items
   pub few : length imports ≤ length (tokensFrom t 0)
   pub wf : Wf t (r .next .at)
 

@@ -3,8 +3,8 @@ ghost use Prim.Native.Nat.{_≤_};
 ghost use lib.ListN.{length};
 ghost use Rattle.token.specs.Places.{tokensFrom, Wf};
 ghost use Rattle.parser.specs.Steps.{ahead};
-ghost use Rattle.places.specs.Places.{Numbers, Sortable};
-ghost use Rattle.places.specs.Imports.{Room, Opening, Walks, Arranges, OrdersIn};
+ghost use Rattle.places.specs.Places.{Numbers, Sortable, Arranges};
+ghost use Rattle.places.specs.Imports.{Room, Opening, Walks, OrdersIn};
 use parser::Cursor;
 use parser::ImportStep;
 use parser::Skip;
@@ -105,20 +105,20 @@ fn collect_imports(t: &[u8], from: Cursor, items: &mut [u64]) -> Walked
     }
 }
 
-// How many items are left, and whether two imports have the same name.
-struct Arranged {
-    count: usize,
-    repeated: bool,
+// How many items are left, and whether two were the same.
+pub struct Arranged {
+    pub count: usize,
+    pub repeated: bool,
 }
 
 // The first n items, in order or, where two are the same, those that are the same as the one in front of them.
-fn arrange(t: &[u8], items: &mut [u64], spare: &mut [u64], n: usize) -> Arranged
-    requires { ⌜ Sortable (now t) Key.Name n (now items) (now spare) ⌝ }
-    ensures { λ r. ⌜ Arranges (now (t .entry)) n (now (items .entry)) (now (items .exit)) r ⌝ }
+pub fn arrange(t: &[u8], key: Key, items: &mut [u64], spare: &mut [u64], n: usize) -> Arranged
+    requires { ⌜ Sortable (now t) key n (now items) (now spare) ⌝ }
+    ensures { λ r. ⌜ Arranges (now (t .entry)) key n (now (items .entry)) (now (items .exit)) r ⌝ }
 {
-    if sorted::sort(t, Key::Name, &mut items[..n], spare) {
+    if sorted::sort(t, key, &mut items[..n], spare) {
         return Arranged {
-            count: sorted::keep_repeats(t, Key::Name, &mut items[..n]),
+            count: sorted::keep_repeats(t, key, &mut items[..n]),
             repeated: true,
         };
     }
@@ -147,7 +147,7 @@ pub fn order_imports(t: &[u8], items: &mut [u64], spare: &mut [u64]) -> Ordered
     let comment = skip_opening(t);
     let from = comment.next;
     let walked = collect_imports(t, from, items);
-    let arranged = arrange(t, items, spare, walked.count);
+    let arranged = arrange(t, Key::Name, items, spare, walked.count);
     let repeated = arranged.repeated;
     let next = walked.next;
     Ordered {

@@ -1,5 +1,5 @@
 -- The reader's answers, from what the table decodes to, what its tokens parse to, and whether the answer fits.
-use Prim.Native.Nat.{ℕ, zero, suc, _+_, _*_, _/_, _≤_, _<_}
+use Prim.Native.Nat.{ℕ, _+_, _/_, _≤_, _<_}
 use mathlib.Core.Path.{_≡_, refl, ap, sym, _∙_}
 use mathlib.Core.Bool.{true, false}
 use mathlib.Core.List.{List, [], _∷_, _++_}
@@ -7,13 +7,13 @@ use native.Mathlib.Nat.{zero-add}
 use native.Mathlib.Omega.{arith}
 use borrow.Author.Tests.{le-leb}
 use lib.Dec.{leb}
-use lib.ListN.{length, drop, length-append}
+use lib.ListN.{length, drop}
 use Rattle.wire.specs.Bytes.{Bytes}
 use Rattle.wire.specs.Pick.{pick}
 use Rattle.token.specs.Token.{Token}
-use Rattle.token.specs.Table.{refused, tokens, decode}
+use Rattle.token.specs.Table.{refused, tokens, decodeFrom, decode}
 use Rattle.schema.specs.Encode.{encodeSchema}
-use Rattle.grammar.specs.Error.{Error, errorBytes, errorsBytes}
+use Rattle.grammar.specs.Error.{Error, errorsBytes}
 use Rattle.grammar.specs.Meaning.{schemaOf}
 use Rattle.grammar.specs.Reading.{parseSchema, parse, Outcome}
 use Rattle.grammar.specs.Answer.{readAnswer, answerOf, bytesOf, fitted}
@@ -30,7 +30,7 @@ use Rattle.grammar.proofs.Outcomes.{parse-schema, parse-errors, read-refused, r
 use Rattle.places.specs.Imports.{Orders}
 use Rattle.places.specs.declared.Ordered.{Ordered}
 use Rattle.judge.specs.Judges.{Judgeable}
-use Rattle.reader.specs.Answers.{Answers, Checked, Ready, Clean, told}
+use Rattle.reader.specs.Answers.{Answers, Checked, Ready, Clean}
 use Rattle.reader.specs.declared.Answer.the-variants.{Refused, Schema, Errors}
 
 pub turned-away : (t o : Bytes) {number offset : ℕ} → decode t ≡ refused number offset → Answers t o o (Refused number offset)
@@ -58,14 +58,14 @@ module _ (t o : Bytes) {ts : List Token} (d : decode t ≡ tokens ts) where
       leb (length (errorsBytes es)) (length o) ≡ true → (o′ ≡ errorsBytes es ++ drop (length (errorsBytes es)) o) × (r ≡ length (errorsBytes es)) → Answers t o o′ (Errors r)
   errors-written p e (b, n) = let a = fits t o d p e in record { answer = rw (a, n); buffer = rw a b }
 
--- no tokens are an empty schema, whose table is empty
-pub nothing-read : (t o : Bytes) {e : ℕ} → Checked t e → length (tokensFrom t 0) ≡ 0 → Answers t o o (Schema 0)
-unfolding encodeSchema
-nothing-read t o c z = go (tokensFrom t 0) (c .decodes) z
+-- no bytes are no tokens, and these an empty schema, whose table is empty
+pub nothing-read : {t : Bytes} (o : Bytes) → length t ≡ 0 → Answers t o o (Schema 0)
+unfolding encodeSchema decode decodeFrom pick
+nothing-read {t} o z = go t z
   where
-    go : (ts : List Token) → decode t ≡ tokens ts → length ts ≡ 0 → Answers t o o (Schema 0)
-    go [] d n = schema-written t o d refl (le-leb 0 (length o) (omega arith)) (refl, refl)
-    go (x ∷ xs) d n = absurd (omega (arith, n))
+    go : (t : Bytes) → length t ≡ 0 → Answers t o o (Schema 0)
+    go [] n = schema-written [] o {ts = []} refl refl (le-leb 0 (length o) (omega arith)) (refl, refl)
+    go (b ∷ bs) n = absurd (omega (arith, n))
 
 -- a count of the errors is 0 exactly where there are none
 errors-none : (es : List Error) {n : ℕ} → n ≡ length es → n ≡ 0 → es ≡ []

@@ -135,19 +135,19 @@ fn read_large(t: &[u8], out: &mut [u8], end: u32) -> Answer
     read_with(t, out, end, &mut imports, &mut items, &mut spare)
 }
 
-// The reading on from a place of the table.
+// The reading on from a place of the table. Nothing is an empty schema.
 fn read_from(table: &[u8], at: usize, out: &mut [u8]) -> Answer
     requires { ⌜ at ≤ length (now table) ⌝ }
     ensures { λ r. ⌜ Answers (drop at (now (table .entry))) (now (out .entry)) (now (out .exit)) r ⌝ }
 {
     let t = &table[at..];
+    if t.len() == 0 {
+        return Answer::Schema(0);
+    }
     let checked = token::check(t);
     match checked {
         token::Checked::Refused(number, offset) => Answer::Refused(number, offset),
         token::Checked::Fine(count, end) => {
-            if count == 0 {
-                return Answer::Schema(0);
-            }
             if count <= 64 {
                 return read_small(t, out, end);
             }

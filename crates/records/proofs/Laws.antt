@@ -6,15 +6,15 @@ use mathlib.Core.Option.{Option, none, some}
 use mathlib.Core.List.{List, [], _∷_, _++_, append-assoc, append-nil}
 use native.Mathlib.Omega.{arith}
 use native.Mathlib.Numerals.{sub-one}
-use lib.Dec.{leb, eqb}
-use lib.ListN.{length, getD, take, drop, length-append}
+use lib.Dec.{leb}
+use lib.ListN.{length, drop, length-append}
 use borrow.Author.Tests.{leb-true, le-leb, eq-eqb, ne-eqb}
 use Rattle.wire.specs.Bytes.{Bytes}
 use Rattle.wire.specs.Le.{leBytes}
 use Rattle.wire.specs.Pick.{pick}
 use Rattle.wire.specs.Put.{Wrote}
 use Rattle.wire.specs.Record.{headBytes, recordBytes}
-use Rattle.wire.proofs.Laws.{then, parts, Rest, rest-all, rest-step, wrote-length}
+use Rattle.wire.proofs.Laws.{parts, Rest, rest-step, wrote-length}
 use Rattle.wire.proofs.Numbers.{AllBytes, leBytes-length}
 use Rattle.token.specs.Token.{Token}
 use Rattle.token.specs.Kind.{kComment, kIdentifier}
@@ -23,7 +23,6 @@ use Rattle.token.specs.Table.{sizeOf, tokenOf}
 use Rattle.token.specs.Places.{tokAt, nextAt}
 use Rattle.token.proofs.Paragraphs.{all-take, all-drop, paragraphs-again, paragraphs-small}
 use Rattle.token.proofs.Walk.{wf-good}
-use Rattle.schema.specs.Ast.{TypeVariant}
 use Rattle.schema.specs.Kind.{sComment, sArray, sPlain, sCustom}
 use Rattle.schema.specs.Encode.{sized, counted, encodeComment, encodeType}
 use Rattle.grammar.specs.Tree.{TypeTree, Is, IfAny, WfType}

@@ -1,6 +1,6 @@
 -- The records that a schema within the limits is written as fit their places, and follow one another as a schema table's do.
 use mathlib.Core.Path.{_≡_, refl}
-use mathlib.Core.Bool.{Bool, true, false}
+use mathlib.Core.Bool.{Bool, true, false, and-eq-true-iff}
 use mathlib.Core.List.{List, [], _∷_}
 use Prim.Native.Nat.{ℕ, _+_, _≤_, _<_}
 use native.Mathlib.Nat.{zero-add}
@@ -18,7 +18,7 @@ use Rattle.schema.specs.Limits.{Each, RangeWithin, CommentWithin, Import
 use Rattle.schema.specs.Encode.{nowhere, declarationKind, declarationPayload, importPayload}
 use Rattle.schema.specs.Payload.{nameOf, isTypePayload, isPayload}
 use Rattle.schema.specs.Table.{mayFollow, isLater, rowAfter, isRight, isNext, areNext, outset}
-use Rattle.schema.proofs.Records.{both, AllFit}
+use Rattle.schema.proofs.Records.{AllFit}
 use Rattle.token.proofs.Encode.{Narrow}
 use Rattle.schema.proofs.Payloads.{Right, name-is, import-right, comment-right, declaration-right, field-right, deleted-right, plain-right, custom-right}
 use Rattle.schema.proofs.Written.{made, commentRecords, importRecords, typeRecords, fieldRecords, deletedRecords, declarationRecords, schemaRecords}
@@ -104,7 +104,7 @@ module _ (ds : List Declaration) (w : Each DeclarationWithin ds) where
   unfolding mayFollow pick isPayload isTypePayload isLater rowAfter
   imports-after i [] v ws c = declarations-next ds _ (record { struct = refl; choice = refl; end = refl }) w
   imports-after i (j ∷ is) v ws c =
-      let b = both (isEarlier i j) _ c in
+      let b = and-eq-true-iff (isEarlier i j) _ .0 c in
       let e : isBefore (nameOf (importPayload i)) (nameOf (importPayload j)) ≡ true =
       rw (name-is (i .name) (i .path) (v .name), name-is (j .name) (j .path) (ws .0 .name)) (b .0) in
       next refl (import-right j (ws .0) .right) e (omega arith) (imports-after j is (ws .0) (ws .1) (b .1))

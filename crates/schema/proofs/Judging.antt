@@ -1,7 +1,7 @@
 -- The check, record by record: r is its verdict on the table t, of which it has passed the records before `at`.
 use Prim.Native.Nat.{ℕ, _-_, _≤_, _<_}
 use mathlib.Core.Path.{_≡_, refl, sym, _∙_}
-use mathlib.Core.Bool.{Bool, true, false, _&&_, and-false}
+use mathlib.Core.Bool.{Bool, true, false, _&&_, and-false, and-eq-true-iff}
 use native.Mathlib.Omega.{arith}
 use borrow.Author.Tests.{leb-true, eqb-true}
 use lib.Dec.{eqb}
@@ -16,7 +16,7 @@ use Rattle.schema.specs.Kind.{sImport}
 use Rattle.schema.specs.Payload.{isSized, isNamed, isImport, isPayload}
 use Rattle.schema.specs.Table.{isFramed, mayFollow, rowAfter, isRight, isLater, isNext, areNext, outset, isSchemaTable}
 use Rattle.schema.specs.Walk.{recordsFrom, kindAt, nextAt, payloadAt, tokenAt, WholeAt}
-use Rattle.schema.proofs.Records.{both, framed-not}
+use Rattle.schema.proofs.Records.{framed-not}
 use Rattle.schema.proofs.Walk.{whole-at, records-at, framed-at, records-end}
 
 -- The last record, of this kind, stands at `last`; before the first one, `last` is `at`.
@@ -50,16 +50,16 @@ unfolding isLater
 later-same last k p p′ q h = go (eqb k sImport && eqb last sImport) refl
   where
     go : (b : Bool) → (eqb k sImport && eqb last sImport) ≡ b → isLater last p k q ≡ isLater last p′ k q
-    go true e = rw (h (eqb-true last sImport (both (eqb k sImport) _ e .1)))
+    go true e = rw (h (eqb-true last sImport (and-eq-true-iff (eqb k sImport) _ .0 e .1)))
     go false e = unfold pick in rw e
 
 -- an import that is right has a name after its length
 pub import-sized : (last row k : ℕ) (p : Bytes) → isRight last row k p ≡ true → k ≡ sImport → isSized p ≡ true
 unfolding isRight isPayload pick isImport isNamed
 import-sized last row k p e i =
-    let a : isPayload k p ≡ true = both (isPayload k p) _ (both (mayFollow last k) _ e .1) .0 in
+    let a : isPayload k p ≡ true = and-eq-true-iff (isPayload k p) _ .0 (and-eq-true-iff (mayFollow last k) _ .0 e .1) .0 in
     let b : isImport p ≡ true = rw i at a in
-    both (isSized p) _ (both (isNamed p) _ b .0) .0
+    and-eq-true-iff (isSized p) _ .0 (and-eq-true-iff (isNamed p) _ .0 b .0) .0
 
 module _ {t : Bytes} {at last kind row : ℕ} {r : Bool} (j : Judging t at last kind row r) where
   pub judged-end : length t ≤ at → mayFollow kind 0 ≡ r
@@ -94,7 +94,7 @@ module _ {t : Bytes} {at last kind row : ℕ} {r : Bool} (j : Judging t at last 
       judged-next f =
           record {
             inside = w .tail;
-            shallow = leb-true _ 64 (both (isPayload (kindAt t at) (payloadAt t at)) _ (both (mayFollow kind (kindAt t at)) _ e .1) .1);
+            shallow = leb-true _ 64 (and-eq-true-iff (isPayload (kindAt t at) (payloadAt t at)) _ .0 (and-eq-true-iff (mayFollow kind (kindAt t at)) _ .0 e .1) .1);
             whole = λ _. w;
             sized = import-sized kind row (kindAt t at) (payloadAt t at) e;
             before = tokenAt t at;

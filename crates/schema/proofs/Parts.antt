@@ -1,6 +1,6 @@
 -- The parts of a payload are read where they were written, and written where they were read.
 use mathlib.Core.Path.{_≡_, refl, sym, ap, _∙_}
-use mathlib.Core.Bool.{true}
+use mathlib.Core.Bool.{true, and-eq-true-iff}
 use mathlib.Core.List.{List, [], _∷_, _++_}
 use Prim.Native.Nat.{ℕ, zero, suc, _+_, _*_, _-_, _/_, _^_, _≤_, _<_}
 use native.Mathlib.Omega.{arith}
@@ -18,7 +18,6 @@ use Rattle.token.proofs.Encode.{le-small, bytes-at}
 use Rattle.schema.specs.Limits.{Each}
 use Rattle.schema.specs.Encode.{sized, indices}
 use Rattle.schema.specs.Payload.{nameOf, afterName, isSized, isNamed, indicesIn, indicesOf}
-use Rattle.schema.proofs.Records.{both}
 
 -- a number fits the bytes that it was read from
 pub leAt-small : (k : ℕ) (bs : Bytes) (at : ℕ) → AllBytes bs → at + k ≤ length bs → leAt k bs at < 256 ^ k
@@ -46,7 +45,7 @@ pub record Sized (p : Bytes) : Type 0 where
 pub sized-facts : (p : Bytes) → isSized p ≡ true → Sized p
 unfolding isSized paragraphOf
 sized-facts p e =
-    let h = leb-true (2 + u16At p 0) (length p) (both (leb 2 (length p)) _ e .1) in
+    let h = leb-true (2 + u16At p 0) (length p) (and-eq-true-iff (leb 2 (length p)) _ .0 e .1) in
     record { room = h; size = length-take (u16At p 0) (drop 2 p) ∙ simp length-drop (omega arith) }
 
 pub name-back : (p : Bytes) → Sized p → AllBytes p → sized (nameOf p) ++ afterName p ≡ p
@@ -57,7 +56,7 @@ name-back p s a =
 
 pub named-sized : (p : Bytes) → isNamed p ≡ true → isSized p ≡ true
 unfolding isNamed
-named-sized p e = both (isSized p) _ e .0
+named-sized p e = and-eq-true-iff (isSized p) _ .0 e .0
 
 -- as parts of a slice
 pub name-part : (p : Bytes) → take (2 + u16At p 0 - 2) (drop 2 p) ≡ nameOf p

@@ -1,6 +1,6 @@
 -- Within the limits a payload that was written is right and short, and gives its parts back.
 use mathlib.Core.Path.{_≡_, refl, ap, _∙_}
-use mathlib.Core.Bool.{Bool, true, false, _||_}
+use mathlib.Core.Bool.{Bool, true, false, _||_, and-eq-true-iff}
 use mathlib.Core.Option.{Option, none, some}
 use mathlib.Core.List.{List, [], _∷_, _++_, append-assoc}
 use Prim.Native.Nat.{ℕ, suc, _+_, _%_, _≤_, _<_}
@@ -22,7 +22,6 @@ use Rattle.schema.specs.Limits.{CommentWithin, ImportWithin, OptionWithi
 use Rattle.schema.specs.Encode.{sized, counted, importPayload, importPart, ruleNumber, fieldPayload, indices, declarationPayload}
 use Rattle.schema.specs.Payload.{isNamed, nameOf, afterName, isImport, isCounted, isDeclaration, isField, isDeleted, isPlainType, isCustom}
 use Rattle.schema.specs.Decode.{commentOf, optional, ruleOf}
-use Rattle.schema.proofs.Records.{both}
 use Rattle.token.proofs.Paragraphs.{page-size, page-first, page-after, page-length, paragraphs-found, paragraphs-small}
 use Rattle.schema.proofs.Parts.{is-sized, indices-written, indices-length}
 
@@ -33,12 +32,12 @@ pub record Short (name : Bytes) : Type 0 where
 pub name-short : (name : Bytes) → isName name ≡ true → Short name
 unfolding isName
 name-short name e =
-    let w = both (leb 1 (length name)) _ (both (within 1 128 (length name)) _ e .0) in
+    let w = and-eq-true-iff (leb 1 (length name)) _ .0 (and-eq-true-iff (within 1 128 (length name)) _ .0 e .0) in
     record { low = leb-true 1 (length name) (w .0); high = leb-true (length name) 128 (w .1) }
 
 pub path-short : (path : Bytes) → isPath path ≡ true → length path ≤ 128
 unfolding isPath
-path-short path e = leb-true (length path) 128 (both (leb (length path) 128) _ e .0)
+path-short path e = leb-true (length path) 128 (and-eq-true-iff (leb (length path) 128) _ .0 e .0)
 
 -- a payload that was written is right, and its record's length is a u16
 pub record Right (rule : Bytes → Bool) (p : Bytes) : Type 0 where

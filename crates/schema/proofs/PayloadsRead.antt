@@ -1,6 +1,6 @@
 -- A payload that is right is written back as it was read, and its parts are within the limits.
 use mathlib.Core.Path.{_≡_, refl, ap, _∙_}
-use mathlib.Core.Bool.{true, _||_}
+use mathlib.Core.Bool.{true, _||_, and-eq-true-iff}
 use mathlib.Core.Option.{some}
 use mathlib.Core.List.{List, [], _∷_, _++_, append-assoc}
 use Prim.Native.Nat.{ℕ, zero, suc, _+_, _/_, _%_, _≤_, _<_}
@@ -20,7 +20,6 @@ use Rattle.schema.specs.Limits.{CommentWithin, OptionWithin, DeletedWith
 use Rattle.schema.specs.Encode.{sized, counted, importPart, ruleNumber, indices}
 use Rattle.schema.specs.Payload.{isSized, isNamed, nameOf, afterName, isImport, isCounted, isDeclaration, isField, indicesOf, isDeleted, isPlainType, isCustom}
 use Rattle.schema.specs.Decode.{commentOf, optional, ruleOf}
-use Rattle.schema.proofs.Records.{both}
 use Rattle.token.proofs.Paragraphs.{all-drop, paragraphs-good, paragraphs-again}
 use Rattle.token.proofs.Encode.{bytes-at}
 use Rattle.schema.proofs.Parts.{leAt-small, bytes-after, sized-facts, name-back, IndicesRead, indices-read}
@@ -34,7 +33,7 @@ module _ (p : Bytes) (a : AllBytes p) where
   pub named-read : isNamed p ≡ true → NamedRead
   unfolding isNamed
   named-read e =
-      let b = both (isSized p) _ e in
+      let b = and-eq-true-iff (isSized p) _ .0 e in
       record { name = b .1; back = name-back p (sized-facts p (b .0)) a }
 
   pub record CountedRead : Type 0 where
@@ -44,8 +43,8 @@ module _ (p : Bytes) (a : AllBytes p) where
   pub counted-read : isCounted p ≡ true → CountedRead
   unfolding isCounted paragraphsOf
   counted-read e =
-      let b = both (leb 2 (length p)) _ e in
-      let c = both (areParagraphs 32 (drop 2 p)) _ (b .1) in
+      let b = and-eq-true-iff (leb 2 (length p)) _ .0 e in
+      let c = and-eq-true-iff (areParagraphs 32 (drop 2 p)) _ .0 (b .1) in
       let g = paragraphs-good 32 (drop 2 p) (c .0) in
       let n = eqb-true (u16At p 0) (length (paragraphsOf (drop 2 p))) (c .1) in
       record {
@@ -62,7 +61,7 @@ module _ (p : Bytes) (a : AllBytes p) where
   pub import-read : isImport p ≡ true → ImportRead
   unfolding isImport
   import-read e =
-      let b = both (isNamed p) _ e in
+      let b = and-eq-true-iff (isNamed p) _ .0 e in
       let n = named-read p a (b .0) in
       record { name = n .name; path = b .1; back = n .back }
 
@@ -74,7 +73,7 @@ module _ (p : Bytes) (a : AllBytes p) where
   pub declaration-read : isDeclaration p ≡ true → DeclarationRead
   unfolding isDeclaration
   declaration-read e =
-      let b = both (isNamed p) _ e in
+      let b = and-eq-true-iff (isNamed p) _ .0 e in
       let n = named-read p a (b .0) in
       let c = counted-read (afterName p) (bytes-after p a) (b .1) in
       record { name = n .name; comment = c .within; back = rw (c .back) (n .back) }
@@ -97,8 +96,8 @@ unfolding isField
 field-read [] a e = let z : _≡_ {A = ℕ} 0 1 = cc in absurd (omega arith)
 field-read (b ∷ q) a e =
     let p = b ∷ q in
-    let c = both (leb 9 (length p)) _ e in
-    let r = both (leb b 2) _ (c .1) in
+    let c = and-eq-true-iff (leb 9 (length p)) _ .0 e in
+    let r = and-eq-true-iff (leb b 2) _ .0 (c .1) in
     let l = leb-true 9 (length p) (c .0) in
     let d = declaration-read (drop 9 p) (all-drop 9 p a) (r .1) in
     record {
@@ -128,8 +127,8 @@ pub record DeletedRead (p : Bytes) : Type 0 where
 pub deleted-read : (p : Bytes) → AllBytes p → 12 + length p < 65536 → isDeleted p ≡ true → DeletedRead p
 unfolding isDeleted indicesOf
 deleted-read p a h e =
-    let b = both (leb 1 (length p)) _ e in
-    let c = both (eqb (length p % 8) 0) _ (b .1) in
+    let b = and-eq-true-iff (leb 1 (length p)) _ .0 e in
+    let c = and-eq-true-iff (eqb (length p % 8) 0) _ .0 (b .1) in
     let l = leb-true 1 (length p) (b .0) in
     let m = eqb-true (length p % 8) 0 (c .0) in
     let r : IndicesRead (length p / 8) p = indices-read (length p / 8) p (omega arith) a in
@@ -149,7 +148,7 @@ pub comment-read : (p : Bytes) → AllBytes p → isComment p ≡ true → Comme
 unfolding isComment paragraphsOf
 comment-read [] a e = let z : _≡_ {A = ℕ} 0 1 = cc in absurd (omega arith)
 comment-read (b ∷ q) a e =
-    let are = both (leb 1 (length (b ∷ q))) _ e .1 in
+    let are = and-eq-true-iff (leb 1 (length (b ∷ q))) _ .0 e .1 in
     let g = paragraphs-good 32 (b ∷ q) are in
     record { some = some-of (paragraphsOf (b ∷ q)) (omega arith); within = record { few = g .1; each = g .0 }; back = paragraphs-again 32 (b ∷ q) a are }
 
@@ -160,7 +159,7 @@ pub record PlainRead (p : Bytes) : Type 0 where
 pub plain-read : (p : Bytes) → AllBytes p → isPlainType p ≡ true → PlainRead p
 unfolding isPlainType
 plain-read p a e =
-    let b = both (eqb (length p) 2) _ e in
+    let b = and-eq-true-iff (eqb (length p) 2) _ .0 e in
     let l = eqb-true (length p) 2 (b .0) in
     record { kind = b .1; back = bytes-at 2 0 p a (omega arith) ∙ take-all 2 p (omega arith) }
 
@@ -172,8 +171,8 @@ pub record CustomRead (p : Bytes) : Type 0 where
 pub custom-read : (p : Bytes) → AllBytes p → isCustom p ≡ true → CustomRead p
 unfolding isCustom
 custom-read p a e =
-    let b = both (isSized p) _ e in
-    let c = both (eqb (u16At p 0) 0 || isName (nameOf p)) _ (b .1) in
+    let b = and-eq-true-iff (isSized p) _ .0 e in
+    let c = and-eq-true-iff (eqb (u16At p 0) 0 || isName (nameOf p)) _ .0 (b .1) in
     let s = sized-facts p (b .0) in
     record {
       import = go (nameOf p) (rw (← (s .size)) at (c .0));

@@ -1,6 +1,6 @@
 -- The records of a table, one after the other: at the front of its bytes, and as they were written.
 use mathlib.Core.Path.{_≡_, refl, _∙_}
-use mathlib.Core.Bool.{Bool, true, false, _&&_, and-eq-true-iff}
+use mathlib.Core.Bool.{true, false, and-eq-true-iff}
 use mathlib.Core.List.{List, [], _∷_}
 use Prim.Native.Nat.{ℕ, zero, suc, _-_, _≤_, _<_}
 use native.Mathlib.Numerals.{sub-one}
@@ -14,10 +14,6 @@ use Rattle.token.proofs.Records.{fits, whole-is}
 use Rattle.token.proofs.Encode.{Narrow, first-token, first-rest, first-whole}
 pub use Rattle.token.proofs.Records.{Fits as Whole}
 use Rattle.schema.specs.Table.{recordsAfter, recordsOf, isFramedAfter, isFramed}
-
--- both parts of a test hold
-pub both : (a b : Bool) → (a && b) ≡ true → (a ≡ true) × (b ≡ true)
-both a b e = and-eq-true-iff a b .0 e
 
 pub is-whole : (bs : Bytes) → Whole bs → isWhole bs ≡ true
 is-whole bs w =
@@ -58,7 +54,7 @@ framed-step (b ∷ bs) w =
 pub framed-whole : (bs : Bytes) → 0 < length bs → isFramed bs ≡ true → Whole bs
 unfolding isFramed
 framed-whole [] h e = absurd (omega arith)
-framed-whole (b ∷ bs) h e = fits (b ∷ bs) (both (isWhole (b ∷ bs)) _ e .0)
+framed-whole (b ∷ bs) h e = fits (b ∷ bs) (and-eq-true-iff (isWhole (b ∷ bs)) _ .0 e .0)
 
 pub framed-not : (bs : Bytes) → 0 < length bs → isWhole bs ≡ false → isFramed bs ≡ false
 unfolding isFramed

@@ -1,7 +1,7 @@
 -- Schemas and their tables. Encoding and decoding are inverse to each other, between the schemas within the limits and the schema tables whose
 -- records 101 and 106 have the range 0,0: encoding writes it, decoding doesn't judge it.
 use mathlib.Core.Path.{_≡_, refl, sym, ap, _∙_}
-use mathlib.Core.Bool.{true}
+use mathlib.Core.Bool.{true, and-eq-true-iff}
 use mathlib.Core.Option.{some}
 use mathlib.Core.List.{List, [], _∷_, map}
 use lib.Dec.{ltb}
@@ -16,7 +16,7 @@ use Rattle.schema.specs.Order.{isChain}
 use Rattle.schema.specs.Table.{recordsOf, isFramed, isSchemaTable}
 use Rattle.schema.specs.Decode.{decodeSchema, settled}
 use Rattle.schema.specs.Limits.{Each, DeclarationWithin, isEarlier, Within}
-use Rattle.schema.proofs.Records.{both, records-encode, framed-encode}
+use Rattle.schema.proofs.Records.{records-encode, framed-encode}
 use Rattle.schema.proofs.RecordsBack.{Back, records-back}
 use Rattle.schema.proofs.Written.{schemaRecords, encode-records}
 use Rattle.schema.proofs.ReadBack.{schema-is}
@@ -45,11 +45,11 @@ encode-unique s s′ w w′ e = let p : some s ≡ some s′ = sym (decode-encod
 module _ (t : Bytes) (a : AllBytes t) (s : Schema) (e : decodeSchema t ≡ some s) where
   table : Back t
   unfolding isSchemaTable
-  table = records-back t a (both (isFramed t) _ (decoded t s e .right) .0)
+  table = records-back t a (and-eq-true-iff (isFramed t) _ .0 (decoded t s e .right) .0)
 
   parts : SchemaParts (recordsOf t)
   unfolding isSchemaTable
-  parts = schema-parts (recordsOf t) (table .read) (both (isFramed t) _ (decoded t s e .right) .1)
+  parts = schema-parts (recordsOf t) (table .read) (and-eq-true-iff (isFramed t) _ .0 (decoded t s e .right) .1)
 
   -- what a schema table decodes to is within the limits
   pub decode-within : Within s

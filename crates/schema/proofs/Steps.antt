@@ -1,6 +1,6 @@
 -- What the records of a schema table hold, by the kind of the first: its payload's rule, what may follow it, and the parts of the schema.
 use mathlib.Core.Path.{_≡_, refl, sym, _∙_, subst}
-use mathlib.Core.Bool.{Bool, true, false, _||_}
+use mathlib.Core.Bool.{Bool, true, false, _||_, and-eq-true-iff}
 use mathlib.Core.List.{List, [], _∷_}
 use Prim.Native.Nat.{ℕ, _+_, _≤_}
 use native.Mathlib.Omega.{arith}
@@ -19,7 +19,6 @@ use Rattle.schema.specs.Encode.{declarationKind}
 use Rattle.schema.specs.Payload.{nameOf, afterName, indicesOf, isImport, isDeclaration, isField, isDeleted, isPlainType, isCustom, isTypePayload, isPayload}
 use Rattle.schema.specs.Table.{mayFollow, isOutside, isImporting, isInside, isType, isLater, rowAfter, isRight, isNext, areNext}
 use Rattle.schema.specs.Decode.{rangeOf, openingOf, importOf, importsOf, optional, typeOf, fieldOf, fieldsOf, deletedOf, variantOf, declarationOf, declarationsOf, settled}
-use Rattle.schema.proofs.Records.{both}
 use Rattle.schema.proofs.Written.{made}
 
 pub never : {A : Type 0} → _≡_ {A = Bool} false true → A
@@ -48,10 +47,10 @@ pub record NextIs (last : Token) (row : ℕ) (r : Token) (rs : List Token) : Typ
 pub next-is : {last : Token} {row : ℕ} {r : Token} {rs : List Token} → areNext last row (r ∷ rs) ≡ true → NextIs last row r rs
 unfolding isNext isRight
 next-is {last} {row} {r} e =
-    let a = both (isNext last row r) _ e in
-    let d = both (isRight (last .kind) row (r .kind) (r .payload)) _ (a .0) in
-    let b = both (mayFollow (last .kind) (r .kind)) _ (d .0) in
-    let c = both (isPayload (r .kind) (r .payload)) _ (b .1) in
+    let a = and-eq-true-iff (isNext last row r) _ .0 e in
+    let d = and-eq-true-iff (isRight (last .kind) row (r .kind) (r .payload)) _ .0 (a .0) in
+    let b = and-eq-true-iff (mayFollow (last .kind) (r .kind)) _ .0 (d .0) in
+    let c = and-eq-true-iff (isPayload (r .kind) (r .payload)) _ .0 (b .1) in
     record { follow = b .0; payload = c .0; nested = leb-true (rowAfter row (r .kind)) 64 (c .1); later = d .1; rest = a .1 }
 
 module _ (r : Token) (rs : List Token) where

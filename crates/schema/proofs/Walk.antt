@@ -1,7 +1,7 @@
 -- From record to record: at a place that stands in a table, what the record there is, and that the next place stands.
 use Prim.Native.Nat.{ℕ, _+_, _-_, _≤_, _<_}
 use mathlib.Core.Path.{_≡_, refl, sym, _∙_}
-use mathlib.Core.Bool.{Bool, true}
+use mathlib.Core.Bool.{Bool, true, and-eq-true-iff}
 use mathlib.Core.List.{[], _∷_}
 use native.Mathlib.Nat.{zero-add}
 use native.Mathlib.Omega.{arith}
@@ -17,7 +17,7 @@ use Rattle.schema.specs.Walk.{recordsFrom, kindAt, nextAt, payloadAt, to
 use Rattle.schema.specs.Kind.{sField}
 use Rattle.schema.specs.Limits.{nesting}
 use Rattle.schema.specs.Decode.{typeOf}
-use Rattle.schema.proofs.Records.{both, Whole, records-step, framed-step, framed-whole}
+use Rattle.schema.proofs.Records.{Whole, records-step, framed-step, framed-whole}
 use Rattle.schema.proofs.Steps.{NextIs, next-is, at-field, nested}
 
 module _ (t : Bytes) (at : ℕ) where
@@ -60,7 +60,7 @@ module _ (t : Bytes) (at : ℕ) where
 pub stands-start : (t : Bytes) → isSchemaTable t ≡ true → Stands t 0 (mayFollow 0)
 unfolding isSchemaTable
 stands-start t e =
-    let f = both (isFramed t) _ e in
+    let f = and-eq-true-iff (isFramed t) _ .0 e in
     record { inside = omega arith; framed = f .0; before = outset; row = 0; follows = λ k. refl; right = f .1 }
 
 pub end-may : {t : Bytes} {at : ℕ} {may : ℕ → Bool} → Stands t at may → length t ≤ at → may 0 ≡ true
@@ -82,13 +82,13 @@ record-at {t} {at} {may} s h =
     let rs = records-at t at w in
     let k = kindAt t at in
     let p = payloadAt t at in
-    let f = both (isNext (s .before) (s .row) (tokenAt t at)) _ (rw rs at (s .right)) in
-    let g = both (isRight (s .before .kind) (s .row) k p) _ (f .0) in
-    let i = both (mayFollow (s .before .kind) k) _ (g .0) in
+    let f = and-eq-true-iff (isNext (s .before) (s .row) (tokenAt t at)) _ .0 (rw rs at (s .right)) in
+    let g = and-eq-true-iff (isRight (s .before .kind) (s .row) k p) _ .0 (f .0) in
+    let i = and-eq-true-iff (mayFollow (s .before .kind) k) _ .0 (g .0) in
     record {
       whole = w;
       allowed = sym (s .follows k) ∙ i .0;
-      right = both (isPayload k p) _ (i .1) .0;
+      right = and-eq-true-iff (isPayload k p) _ .0 (i .1) .0;
       records = rs;
       next = λ then e.
           record {

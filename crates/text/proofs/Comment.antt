@@ -1,7 +1,7 @@
 -- A comment written paragraph by paragraph, from a part of a table.
 use Prim.Native.Nat.{ℕ, zero, suc, _+_, _-_, _≤_, _<_}
 use mathlib.Core.Path.{_≡_, refl, sym, ap, _∙_}
-use mathlib.Core.Bool.{Bool, true, false, not, _&&_}
+use mathlib.Core.Bool.{true, not, and-eq-true-iff}
 use mathlib.Core.List.{List, [], _∷_, _++_, append-assoc}
 use native.Mathlib.Numerals.{sub-one}
 use native.Mathlib.Omega.{arith}
@@ -18,10 +18,6 @@ use Rattle.token.proofs.Laws.{Paging, pageEnd, paged-out, paged-step}
 use Rattle.schema.specs.Decode.{commentOf}
 use Rattle.text.specs.Text.{paragraphText, paragraphsText, commentText, mark}
 
-both : (a b : Bool) → true ≡ (a && b) → (a ≡ true) × (b ≡ true)
-both true b e = (refl, sym e)
-both false b e = let z : _≡_ {A = ℕ} 0 1 = cc in absurd (omega arith)
-
 -- the paragraph that begins at a place
 pub record Page (p : Bytes) (n at : ℕ) : Type 0 where
   pub room : pageEnd p at ≤ length p
@@ -37,12 +33,12 @@ page : {p : Bytes} {n at : ℕ} → Paging p n at true → at < length p → Pag
 unfolding paragraphOf afterParagraph leAt
 page {p} {n} {at} s h =
     let some : n ≡ 0 → ⊥ = λ e. let z : _≡_ {A = ℕ} 0 1 = cc (paged-out s h e) in omega arith in
-    let f = both (leb 2 (length p - at)) _ (paged-step s h some) in
-    let g = both (leb (2 + u16At p at) (length p - at)) _ (sym (f .1)) in
+    let f = and-eq-true-iff (leb 2 (length p - at)) _ .0 (sym (paged-step s h some)) in
+    let g = and-eq-true-iff (leb (2 + u16At p at) (length p - at)) _ .0 (f .1) in
     let z : pageEnd p at - (at + 2) ≡ u16At p at = omega arith in
     record {
       room = omega (arith, leb-true (2 + u16At p at) (length p - at) (g .0));
-      later = both (isParagraph _) _ (sym (g .1)) .1;
+      later = and-eq-true-iff (isParagraph _) _ .0 (g .1) .1;
       each = paragraphs-in n (drop at p) some (rw length-drop (omega arith)) ∙ rw (z, drop-drop 2 at p, drop-drop (u16At p at) (at + 2) p);
     }
 

@@ -1,7 +1,7 @@
 -- What the rules of payloads say of the parts that are written.
 use Prim.Native.Nat.{ℕ, _-_, _%_, _≤_}
 use mathlib.Core.Path.{_≡_, refl}
-use mathlib.Core.Bool.{Bool, true, false, _&&_, _||_}
+use mathlib.Core.Bool.{Bool, true, false, _&&_, _||_, and-eq-true-iff}
 use mathlib.Core.List.{[], _∷_}
 use native.Mathlib.Omega.{arith}
 use borrow.Author.Tests.{leb-true, eqb-true}
@@ -13,7 +13,6 @@ use Rattle.wire.specs.Le.{u16At}
 use Rattle.identifier.specs.Name.{isName}
 use Rattle.token.specs.Payload.{areParagraphs, isComment, paragraphOf, paragraphsOf}
 use Rattle.schema.specs.Payload.{isSized, isNamed, nameOf, afterName, isImport, isCounted, isDeclaration, isField, isDeleted, isPlainType, isCustom}
-use Rattle.schema.proofs.Records.{both}
 use Rattle.schema.proofs.Payloads.{name-short}
 use Rattle.text.specs.Text.{isEmpty}
 
@@ -29,7 +28,7 @@ pub record CommentParts (p : Bytes) : Type 0 where
 pub comment-parts : (p : Bytes) → isComment p ≡ true → CommentParts p
 unfolding isComment paragraphsOf
 comment-parts [] e = let z : _≡_ {A = ℕ} 0 1 = cc in absurd (omega arith)
-comment-parts (b ∷ p) e = record { paragraphs = both (leb 1 (length (b ∷ p))) _ e .1; some = refl }
+comment-parts (b ∷ p) e = record { paragraphs = and-eq-true-iff (leb 1 (length (b ∷ p))) _ .0 e .1; some = refl }
 
 -- a name and a comment
 pub record HeadParts (q : Bytes) : Type 0 where
@@ -41,14 +40,14 @@ pub record HeadParts (q : Bytes) : Type 0 where
 pub head-parts : {q : Bytes} → isDeclaration q ≡ true → HeadParts q
 unfolding isDeclaration isNamed isCounted
 head-parts {q} e =
-    let f = both (isNamed q) _ e in
-    let g = both (isSized q) _ (f .0) in
-    let h = both (leb 2 (length (afterName q))) _ (f .1) in
+    let f = and-eq-true-iff (isNamed q) _ .0 e in
+    let g = and-eq-true-iff (isSized q) _ .0 (f .0) in
+    let h = and-eq-true-iff (leb 2 (length (afterName q))) _ .0 (f .1) in
     record {
       sized = g .0;
       short = name-short (nameOf q) (g .1) .high;
       room = leb-true 2 (length (afterName q)) (h .0);
-      paragraphs = both (areParagraphs 32 (drop 2 (afterName q))) _ (h .1) .0;
+      paragraphs = and-eq-true-iff (areParagraphs 32 (drop 2 (afterName q))) _ .0 (h .1) .0;
     }
 
 -- at least one index
@@ -59,8 +58,8 @@ pub record DeletedParts (p : Bytes) : Type 0 where
 pub deleted-parts : {p : Bytes} → isDeleted p ≡ true → DeletedParts p
 unfolding isDeleted
 deleted-parts {p} e =
-    let f = both (leb 1 (length p)) _ e in
-    record { some = leb-true 1 (length p) (f .0); whole = eqb-true (length p % 8) 0 (both (eqb (length p % 8) 0) _ (f .1) .0) }
+    let f = and-eq-true-iff (leb 1 (length p)) _ .0 e in
+    record { some = leb-true 1 (length p) (f .0); whole = eqb-true (length p % 8) 0 (and-eq-true-iff (eqb (length p % 8) 0) _ .0 (f .1) .0) }
 
 -- a rule, an index, then what a declaration has
 pub record FieldParts (p : Bytes) : Type 0 where
@@ -70,8 +69,8 @@ pub record FieldParts (p : Bytes) : Type 0 where
 pub field-parts : {p : Bytes} → isField p ≡ true → FieldParts p
 unfolding isField
 field-parts {p} e =
-    let f = both (leb 9 (length p)) _ e in
-    record { room = leb-true 9 (length p) (f .0); named = both (leb (getD p 0 0) 2) _ (f .1) .1 }
+    let f = and-eq-true-iff (leb 9 (length p)) _ .0 e in
+    record { room = leb-true 9 (length p) (f .0); named = and-eq-true-iff (leb (getD p 0 0) 2) _ .0 (f .1) .1 }
 
 pub record ImportParts (p : Bytes) : Type 0 where
   pub sized : isSized p ≡ true
@@ -80,12 +79,12 @@ pub record ImportParts (p : Bytes) : Type 0 where
 pub import-parts : {p : Bytes} → isImport p ≡ true → ImportParts p
 unfolding isImport isNamed
 import-parts {p} e =
-    let f = both (isSized p) _ (both (isNamed p) _ e .0) in
+    let f = and-eq-true-iff (isSized p) _ .0 (and-eq-true-iff (isNamed p) _ .0 e .0) in
     record { sized = f .0; short = name-short (nameOf p) (f .1) .high }
 
 pub plain-size : (p : Bytes) → isPlainType p ≡ true → length p ≡ 2
 unfolding isPlainType
-plain-size p e = eqb-true (length p) 2 (both (eqb (length p) 2) _ e .0)
+plain-size p e = eqb-true (length p) 2 (and-eq-true-iff (eqb (length p) 2) _ .0 e .0)
 
 -- a custom type's import has a name of zero bytes where it has none
 pub record CustomParts (p : Bytes) : Type 0 where
@@ -96,8 +95,8 @@ pub record CustomParts (p : Bytes) : Type 0 where
 pub custom-parts : {p : Bytes} → isCustom p ≡ true → CustomParts p
 unfolding isCustom paragraphOf
 custom-parts {p} e =
-    let f = both (isSized p) _ e in
-    let g = both (eqb (u16At p 0) 0 || isName (nameOf p)) _ (f .1) in
+    let f = and-eq-true-iff (isSized p) _ .0 e in
+    let g = and-eq-true-iff (eqb (u16At p 0) 0 || isName (nameOf p)) _ .0 (f .1) in
     record { sized = f .0; import = short (eqb (u16At p 0) 0) refl (g .0); name = name-short (afterName p) (g .1) .high }
   where
     short : (b : Bool) → eqb (u16At p 0) 0 ≡ b → (b || isName (nameOf p)) ≡ true → length (nameOf p) ≤ 128

@@ -1,7 +1,7 @@
 -- The text of a schema has at most four bytes for each byte of the schema's table. So a buffer of that size holds it, and nothing has to be measured.
 use Prim.Native.Nat.{ℕ, zero, suc, _+_, _*_, _-_, _/_, _^_, _≤_, _<_}
 use mathlib.Core.Path.{_≡_, refl, ap}
-use mathlib.Core.Bool.{Bool, true, false, _&&_, _||_, not}
+use mathlib.Core.Bool.{Bool, true, false, _&&_, _||_, not, and-eq-true-iff}
 use mathlib.Core.Option.{none, some}
 use mathlib.Core.List.{List, [], _∷_, _++_, map, flatMap}
 use native.Mathlib.Nat.{pow-succ'}
@@ -28,7 +28,6 @@ use Rattle.schema.specs.Limits.{Each, CommentWithin, FieldWithin, DeclarationWi
 use Rattle.schema.specs.Encode.{encodeComment, encodeImports, encodeType, encodeFields, encodeDeleted, encodeDeclarations, encodeSchema}
 use Rattle.schema.specs.Table.{recordsOf, isFramed, isSchemaTable}
 use Rattle.schema.specs.Decode.{settled, decodeSchema}
-use Rattle.schema.proofs.Records.{both}
 use Rattle.schema.proofs.RecordsBack.{records-back}
 use Rattle.schema.proofs.Verdict.{decoded}
 use Rattle.schema.proofs.RoundTrip.{decode-within, encode-decode}
@@ -99,11 +98,11 @@ one false = 0
 few-words : (gap : Bool) (p : Bytes) → isSpaced gap p ≡ true → 2 * length (wordsOf p .later) + one gap ≤ length p
 few-words true [] e = let z : _≡_ {A = ℕ} 0 1 = cc in absurd (omega arith)
 few-words false [] e = omega arith
-few-words gap (b ∷ bs) e = go (eqb b 32) refl (few-words (eqb b 32) bs (both (not (gap && eqb b 32)) _ (both (isPrintable b) _ e .1) .1)) gap e
+few-words gap (b ∷ bs) e = go (eqb b 32) refl (few-words (eqb b 32) bs (and-eq-true-iff (not (gap && eqb b 32)) _ .0 (and-eq-true-iff (isPrintable b) _ .0 e .1) .1)) gap e
   where
     go : (t : Bool) → eqb b 32 ≡ t → 2 * length (wordsOf bs .later) + one (eqb b 32) ≤ length bs
         → (gap : Bool) → isSpaced gap (b ∷ bs) ≡ true → 2 * length (wordsOf (b ∷ bs) .later) + one gap ≤ length (b ∷ bs)
-    go true q h true e = let f : not (eqb b 32) ≡ true = both (not (eqb b 32)) _ (both (isPrintable b) _ e .1) .0 in let z : _≡_ {A = ℕ} 0 1 = cc (rw q at f) in absurd (omega arith)
+    go true q h true e = let f : not (eqb b 32) ≡ true = and-eq-true-iff (not (eqb b 32)) _ .0 (and-eq-true-iff (isPrintable b) _ .0 e .1) .0 in let z : _≡_ {A = ℕ} 0 1 = cc (rw q at f) in absurd (omega arith)
     go true q h false e = rw (q, wordsOf) (omega (arith, rw q at h))
     go false q h true e = rw (q, wordsOf) (omega (arith, rw q at h))
     go false q h false e = rw (q, wordsOf) (omega (arith, rw q at h))
@@ -115,12 +114,12 @@ Paragraphs indentation more = (p : Bytes) → isParagraph p ≡ true → length 
 outer : Paragraphs [] 0
 unfolding paragraphText isParagraph wrap
 outer p e =
-    omega (arith, lines-short [] 3 (omega arith) 77 (wordsOf p .later) (wordsOf p .first), words-spread 3 p, few-words true p (both (within 1 1024 (length p)) _ e .1))
+    omega (arith, lines-short [] 3 (omega arith) 77 (wordsOf p .later) (wordsOf p .first), words-spread 3 p, few-words true p (and-eq-true-iff (within 1 1024 (length p)) _ .0 e .1))
 
 inner : Paragraphs four 2
 unfolding paragraphText isParagraph wrap
 inner p e =
-    omega (arith, lines-short four 7 (omega arith) 73 (wordsOf p .later) (wordsOf p .first), words-spread 7 p, few-words true p (both (within 1 1024 (length p)) _ e .1))
+    omega (arith, lines-short four 7 (omega arith) 73 (wordsOf p .later) (wordsOf p .first), words-spread 7 p, few-words true p (and-eq-true-iff (within 1 1024 (length p)) _ .0 e .1))
 
 mark-short : (indentation : Bytes) (later : Bool) → length (mark indentation later) ≤ length indentation + 2
 unfolding mark
@@ -131,7 +130,7 @@ paragraphs-short : (indentation : Bytes) (more : ℕ) → Paragraphs indentation
 unfolding paragraphBytes
 paragraphs-short indentation more each later [] e = omega arith
 paragraphs-short indentation more each later (p ∷ ps) e =
-    let f = both (isParagraph p) _ e in
+    let f = and-eq-true-iff (isParagraph p) _ .0 e in
     simp (length-append, leBytes-length) (omega (arith, mark-short indentation later, each p (f .0), paragraphs-short indentation more each true ps (f .1)))
 
 -- imports
@@ -274,7 +273,7 @@ settled-length (r ∷ rs) = go (eqb (r .kind) sComment || eqb (r .kind) sDeleted
 pub table-short : (t : Bytes) → AllBytes t → (s : Schema) → decodeSchema t ≡ some s → length (textOf s) ≤ 4 * length t
 unfolding isSchemaTable
 table-short t a s e =
-    let f = both (isFramed t) _ (decoded t s e .right) .0 in
+    let f = and-eq-true-iff (isFramed t) _ .0 (decoded t s e .right) .0 in
     omega (
       arith,
       text-short s (decode-within t a s e),

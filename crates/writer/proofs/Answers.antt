@@ -1,14 +1,14 @@
 -- The text of a whole table, and the answers of writing it.
-use Prim.Native.Nat.{ℕ, suc, _+_, _-_, _/_, _<_, _≤_, min}
-use mathlib.Core.Path.{_≡_, refl, sym, ap, _∙_}
+use Prim.Native.Nat.{ℕ, _+_, _-_, _/_, _<_, _≤_, min}
+use mathlib.Core.Path.{_≡_, refl, ap, _∙_}
 use mathlib.Core.Bool.{Bool, true, false, not}
 use mathlib.Core.Option.{Option, none, some}
 use mathlib.Core.List.{[], _∷_, _++_}
 use native.Mathlib.Nat.{zero-add}
 use native.Mathlib.Omega.{arith}
 use borrow.Author.Tests.{le-leb, le-ltb}
-use lib.Dec.{leb, ltb, eqb}
-use lib.ListN.{length, getD}
+use lib.Dec.{ltb, eqb}
+use lib.ListN.{length}
 use Rattle.wire.specs.Bytes.{Bytes}
 use Rattle.wire.specs.Pick.{pick}
 use Rattle.wire.specs.Put.{Wrote, laid}
@@ -21,7 +21,7 @@ use Rattle.schema.specs.Walk.{recordsFrom}
 use Rattle.schema.specs.Checked.{answerOf, checked}
 use Rattle.schema.specs.declared.Checked.the-variants as check
 use Rattle.schema.proofs.Verdict.{fine}
-use Rattle.text.specs.Text.{isEmpty, blank, openingText, importsText, declarationsText, textOf}
+use Rattle.text.specs.Text.{isEmpty, blank, openingText, declarationsText, textOf}
 use Rattle.text.proofs.Short.{table-short}
 use Rattle.writer.specs.Steps.{Commented, Imported}
 use Rattle.writer.specs.Written.{answerTo, leftBy, Writes}

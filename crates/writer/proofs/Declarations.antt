@@ -1,24 +1,23 @@
 -- The end of a declaration, its head, and declarations one after the other.
 use Prim.Native.Nat.{ℕ, _+_, _-_, _≤_, _<_}
-use mathlib.Core.Path.{_≡_, refl, sym, ap, _∙_}
-use mathlib.Core.Bool.{Bool, true, false, not, _||_}
-use mathlib.Core.List.{List, [], _∷_, _++_, append-assoc}
+use mathlib.Core.Path.{_≡_, refl, ap, _∙_}
+use mathlib.Core.Bool.{Bool, true, false, not}
+use mathlib.Core.List.{[], _∷_, _++_, append-assoc}
 use native.Mathlib.Omega.{arith}
-use borrow.Author.Tests.{eqb-true}
 use lib.Dec.{eqb}
 use lib.ListN.{length}
 use Rattle.wire.specs.Bytes.{Bytes, bytes}
 use Rattle.wire.specs.Pick.{pick}
 use Rattle.wire.specs.Put.{Wrote}
 use Rattle.wire.proofs.Laws.{then, Rest, rest-all, rest-step, rest-none, wrote-length}
-use Rattle.schema.specs.Kind.{sField, sDeleted}
+use Rattle.schema.specs.Kind.{sDeleted}
 use Rattle.schema.specs.Payload.{isDeclaration, isDeleted, nameOf, afterName, indicesOf}
 use Rattle.schema.specs.Table.{isInside, isOutside}
-use Rattle.schema.specs.Decode.{commentOf, variantOf, fieldsOf, deletedOf, declarationsOf}
+use Rattle.schema.specs.Decode.{commentOf, variantOf, deletedOf, declarationsOf}
 use Rattle.schema.specs.Walk.{recordsFrom, kindAt, nextAt, payloadAt, tokenAt, WholeAt, Stands}
 use Rattle.schema.proofs.Steps.{at-declaration, at-deleted}
 use Rattle.schema.proofs.Walk.{record-at, records-end}
-use Rattle.text.specs.Text.{isEmpty, blank, headText, fieldsText, deletedText, declarationText, declarationsText}
+use Rattle.text.specs.Text.{blank, headText, fieldsText, deletedText, declarationText, declarationsText}
 use Rattle.writer.specs.Parts.{declarationAt}
 use Rattle.writer.specs.Steps.{Outside, Fielded, Fields, Ended, Declared}
 

@@ -2,7 +2,7 @@
 use Prim.Native.Nat.{ℕ, _+_, _*_, _-_, _/_, _≤_, _<_}
 use mathlib.Core.Path.{_≡_, refl, sym, ap, _∙_}
 use mathlib.Core.Bool.{Bool, true, false, not, _&&_, _||_}
-use mathlib.Core.List.{List, [], _∷_, _++_}
+use mathlib.Core.List.{[], _∷_}
 use native.Mathlib.Omega.{arith}
 use borrow.Author.Tests.{eq-eqb, ne-eqb, eqb-true, eqb-false, ltb-true, ltb-false, lt-ltb, le-ltb}
 use lib.Dec.{ltb, eqb}
@@ -22,7 +22,7 @@ use Rattle.schema.proofs.Steps.{either, at-field, at-deleted, at-declaration}
 use Rattle.schema.proofs.Walk.{record-at, records-end, type-nested}
 use Rattle.text.specs.Text.{isEmpty, blank, hasComment, fieldText, fieldsText}
 use Rattle.writer.specs.Parts.{typeAt, depthAt, fieldFrom, isCommented}
-use Rattle.writer.specs.Steps.{Nested, Fielded, Fields}
+use Rattle.writer.specs.Steps.{Nested, Fields}
 use Rattle.writer.proofs.Types.{typed}
 
 -- a field has a comment where there are bytes after the count of its paragraphs

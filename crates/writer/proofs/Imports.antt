@@ -1,8 +1,8 @@
 -- The schema comment, and imports one after the other.
-use Prim.Native.Nat.{ℕ, _+_, _-_, _≤_, _<_}
+use Prim.Native.Nat.{ℕ, _-_, _≤_, _<_}
 use mathlib.Core.Path.{_≡_, refl, sym, ap, _∙_}
-use mathlib.Core.Bool.{Bool, true, false, not, _&&_, _||_}
-use mathlib.Core.List.{List, [], _∷_, _++_}
+use mathlib.Core.Bool.{Bool, true, false, not, _||_}
+use mathlib.Core.List.{[], _∷_}
 use native.Mathlib.Omega.{arith}
 use borrow.Author.Tests.{eqb-true, eqb-false, ltb-true, ltb-false}
 use lib.Dec.{ltb, eqb}
@@ -21,7 +21,7 @@ use Rattle.schema.proofs.Steps.{either, at-comment, at-import, at-declaration}
 use Rattle.schema.proofs.Walk.{stands-start, record-at, records-end}
 use Rattle.text.specs.Text.{isEmpty, blank, commentText, openingText, importText, importsText}
 use Rattle.text.proofs.Parts.{comment-parts}
-use Rattle.writer.specs.Steps.{Outside, Opened, Imported, Commented}
+use Rattle.writer.specs.Steps.{Opened, Imported, Commented}
 
 pub record ImportAt (t : Bytes) (at : ℕ) : Type 0 where
   pub whole : WholeAt t at

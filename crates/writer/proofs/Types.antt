@@ -1,8 +1,8 @@
 -- A type's records: arrays, and then a plain type or a custom one.
-use Prim.Native.Nat.{ℕ, zero, suc, _+_, _-_, _*_, _≤_, _<_}
-use mathlib.Core.Path.{_≡_, refl, sym, ap, _∙_}
-use mathlib.Core.Bool.{Bool, true, false, _&&_, _||_}
-use mathlib.Core.List.{List, [], _∷_}
+use Prim.Native.Nat.{ℕ, zero, suc, _+_, _-_, _*_, _<_}
+use mathlib.Core.Path.{_≡_, refl, ap, _∙_}
+use mathlib.Core.Bool.{Bool, true, false, _&&_}
+use mathlib.Core.List.{List}
 use native.Mathlib.Omega.{arith, not-le}
 use borrow.Author.Tests.{ne-eqb, eqb-true, eqb-false}
 use lib.Dec.{eqb}
@@ -12,7 +12,7 @@ use Rattle.wire.specs.Le.{u16At}
 use Rattle.wire.specs.Pick.{pick}
 use Rattle.token.specs.Kind.{kUnit}
 use Rattle.token.specs.Token.{Token}
-use Rattle.schema.specs.Ast.{TypeVariant, array, plain, custom}
+use Rattle.schema.specs.Ast.{TypeVariant, array}
 use Rattle.schema.specs.Kind.{sArray, sPlain, sCustom}
 use Rattle.schema.specs.Limits.{nesting}
 use Rattle.schema.specs.Payload.{isPlainType, isCustom}

@@ -1,35 +1,20 @@
--- `identifier::compare_in`: the two forms are alike up to the two places (`Level`), and what is left of the first falls.
-use lib.ListN.{length}
-use Rattle.identifier.proofs.Level.{snakeLeft, Level, level, below, above, same, further, less}
+-- `identifier::compare_in`: the first two bytes that differ decide, or the forms from there on are compared.
+use mathlib.Core.Path.{_∙_}
 use borrow.Author.Needs.{needs}
+use Rattle.identifier.proofs.Level.{decides}
 use Rattle.identifier.proofs.compare_in.Statement.{statement}
 use Rattle.identifier.proofs.compare_in.Tie as tie
 
-abbrev Inv-loop : tie.InvT-loop
-Inv-loop class lower upper a b i₀ s₀ j₀ t₀ i s j t = Level a b i s j t
+shared-slice-read-order-of : tie.Need-shared-slice-read-order-of
+shared-slice-read-order-of c = c .before .before .is-decided .ensures (c .before .if1 .taken) .first
 
-abbrev μ-loop : tie.MeasureT-loop
-μ-loop class lower upper a b i₀ s₀ j₀ t₀ i s j t = length (snakeLeft a i s)
+shared-slice-read-order-of-2 : tie.Need-shared-slice-read-order-of-2
+shared-slice-read-order-of-2 c = c .before .before .before .is-decided .ensures (c .before .before .if1 .taken) .second
 
-loop-holds : tie.Need-loop-holds Inv-loop μ-loop
-loop-holds c = level (c .skip-same .ensures)
-
-returns : tie.Need-returns Inv-loop μ-loop
-returns c = search below
-
-returns-2 : tie.Need-returns-2 Inv-loop μ-loop
-returns-2 c = search above
-
-returns-3 : tie.Need-returns-3 Inv-loop μ-loop
-returns-3 c = search same
-
-loop-less : tie.Need-loop-less Inv-loop μ-loop
-loop-less c = search less
-
-loop-again : tie.Need-loop-again Inv-loop μ-loop
-loop-again c = search further
+returns : tie.Need-returns
+returns c = c .order-of .ensures ∙ decides (c .before .before .before .before .before .skip-same .ensures) (c .before .before .before .before .is-decided .ensures (c .before .before .before .if1 .taken))
 
 pub compare-in-spec : {M : Type 1} → statement M
 compare-in-spec =
     tie.close
-    (tie.spec Inv-loop μ-loop (λ c κs. search needs) loop-holds (λ c κs. search needs) (λ c κs. search needs) (λ c κs. search needs) (λ c κs. search needs) returns returns-2 returns-3 loop-less loop-again)
+    (tie.spec (λ c κs. search needs) (λ c κs. search needs) shared-slice-read-order-of shared-slice-read-order-of-2 (λ c κs. search needs) returns (λ c κs. search needs) (λ c. search needs))

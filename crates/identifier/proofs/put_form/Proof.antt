@@ -15,10 +15,10 @@ abbrev μ-loop : tie.MeasureT-loop
 μ-loop out₀ at name up bar class lower upper a₀ i₀ state₀ out a i state = length name - i
 
 loop-less : tie.Need-loop-less Inv-loop μ-loop
-loop-less c = omega (arith, c .before .before .before .before .before .before .before .before .before .before .loop-test .taken)
+loop-less c = omega (arith, c .before .before .before .before .before .before .before .before .before .loop-test .taken)
 
 loop-again : tie.Need-loop-again Inv-loop μ-loop
-loop-again c = putting-more (c .before .before .before .before .before .before .before .before .before .before .before .loop .inv) (c .before .before .before .before .before .before .before .before .before .before .loop-test .taken) (c .before .before .before .before .put-next .ensures) (c .state-after .ensures)
+loop-again c = putting-more (c .before .before .before .before .before .before .before .before .before .before .loop .inv) (c .before .before .before .before .before .before .before .before .before .loop-test .taken) (c .before .before .before .put-next .ensures) (c .state-after .ensures)
 
 returns : tie.Need-returns Inv-loop μ-loop
 returns c = putting-done (c .before .loop .inv) (c .loop-test .left)

@@ -1,5 +1,6 @@
 -- `reader::read_from` meets its contract: the check refuses, or the lists are made as long as the table wants them.
 use native.Mathlib.Omega.{arith}
+use lib.ListN.{length-drop}
 use borrow.Author.Needs.{needs}
 use denote.Ref.{now}
 use Rattle.token.proofs.Laws.{part-from}
@@ -10,12 +11,11 @@ use Rattle.reader.proofs.read_from.Tie as tie
 
 returns : tie.Need-returns
 returns c =
-    let a = c .before .before .before .before .before .before .before .before .args in
-    let p = passed (c .before .before .before .before .check .ensures) (c .before .before .checked2 .given .1) in
-    rw (part-from (now (a .table)) (a .at)) at (nothing-read _ (now (a .out)) (p .0) (omega (arith, p .1, c .if1 .taken)))
+    let a = c .before .before .before .before .args in
+    nothing-read (now (a .out)) (rw length-drop (omega (arith, c .if1 .taken)))
 
 read-small-requires : tie.Need-read-small-requires
-read-small-requires c κs = let p = passed (c .before .before .before .before .before .before .check .ensures) (c .before .before .before .before .checked2 .given .1) in (p .0, omega (arith, p .1))
+read-small-requires c κs = let p = passed (c .before .before .before .before .before .check .ensures) (c .before .before .before .checked2 .given .1) in (p .0, omega (arith, p .1))
 
 returns-2 : tie.Need-returns-2
 returns-2 c =
@@ -23,7 +23,7 @@ returns-2 c =
     rw (part-from (now (a .table)) (a .at)) at (c .before .before .read-small .ensures)
 
 read-medium-requires : tie.Need-read-medium-requires
-read-medium-requires c κs = let p = passed (c .before .before .before .before .before .before .before .check .ensures) (c .before .before .before .before .before .checked2 .given .1) in (p .0, omega (arith, p .1))
+read-medium-requires c κs = let p = passed (c .before .before .before .before .before .before .check .ensures) (c .before .before .before .before .checked2 .given .1) in (p .0, omega (arith, p .1))
 
 returns-3 : tie.Need-returns-3
 returns-3 c =
@@ -31,11 +31,11 @@ returns-3 c =
     rw (part-from (now (a .table)) (a .at)) at (c .before .before .read-medium .ensures)
 
 read-large-requires : tie.Need-read-large-requires
-read-large-requires c κs = let p = passed (c .before .before .before .before .before .before .before .check .ensures) (c .before .before .before .before .before .checked2 .given .1) in (p .0, wf-few (p .0 .wf))
+read-large-requires c κs = let p = passed (c .before .before .before .before .before .before .check .ensures) (c .before .before .before .before .checked2 .given .1) in (p .0, wf-few (p .0 .wf))
 
 returns-4 : tie.Need-returns-4
 returns-4 c =
-    let a = c .before .before .before .before .before .before .before .args in
+    let a = c .before .before .before .before .before .before .before .before .args in
     rw (part-from (now (a .table)) (a .at)) at (stopped (now (a .out)) (c .before .before .before .check .ensures) (c .before .checked .given .1))
 
 returns-5 : tie.Need-returns-5
@@ -46,5 +46,5 @@ returns-5 c =
 pub read-from-spec : {M : Type 1} → statement M
 read-from-spec =
     tie.close
-    (tie.spec (λ c. search needs) (λ c. search needs) (λ c. search needs) (λ c κs. search needs) (λ c. search needs) (λ c. search needs) returns read-small-requires (λ c. search needs) returns-2
+    (tie.spec (λ c. search needs) (λ c. search needs) (λ c. search needs) returns (λ c κs. search needs) (λ c. search needs) (λ c. search needs) read-small-requires (λ c. search needs) returns-2
     read-medium-requires (λ c. search needs) returns-3 read-large-requires returns-4 (λ c. search needs) returns-5)

@@ -1,6 +1,4 @@
 use native.Mathlib.Omega.{arith}
-use mathlib.Core.Path.{ap}
-use lib.ListN.{length}
 use Rattle.records.proofs.Laws.{name-short}
 use borrow.Author.Needs.{needs}
 use Rattle.records.proofs.put_dotted.Statement.{statement}

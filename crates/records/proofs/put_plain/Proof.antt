@@ -1,6 +1,3 @@
-use Rattle.wire.specs.Le.{leBytes}
-use lib.ListN.{length}
-use mathlib.Core.Path.{sym, ap}
 use Rattle.wire.proofs.Numbers.{leBytes-length}
 use Rattle.records.proofs.Laws.{put-record}
 use borrow.Author.Needs.{needs}

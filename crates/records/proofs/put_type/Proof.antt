@@ -1,7 +1,6 @@
 use native.Mathlib.Omega.{arith}
 use Rattle.wire.proofs.Laws.{rest-all, wrote-length}
-use mathlib.Core.Path.{refl, _∙_}
-use Rattle.parser.specs.Trees.{baseAt}
+use mathlib.Core.Path.{refl}
 use Rattle.records.proofs.Laws.{Nesting, bracket-opens, bracket-closes, nested, innermost, wf-base}
 use borrow.Author.Needs.{needs}
 use Rattle.records.proofs.put_type.Statement.{statement}

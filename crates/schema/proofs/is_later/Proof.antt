@@ -1,19 +1,18 @@
 use mathlib.Core.Path.{_≡_}
-use mathlib.Core.Bool.{true}
+use mathlib.Core.Bool.{true, and-eq-true-iff}
 use denote.Ref.{now}
 use lib.Dec.{eqb}
 use borrow.Author.Tests.{eqb-true}
 use Rattle.wire.proofs.Choice.{choice}
 use Rattle.schema.specs.Payload.{isSized}
 use Rattle.schema.specs.Table.{isLater}
-use Rattle.schema.proofs.Records.{both}
 use borrow.Author.Needs.{needs}
 use Rattle.schema.proofs.is_later.Statement.{statement}
 use Rattle.schema.proofs.is_later.Tie as tie
 
 sized-at : (c : tie.Then1) → (isSized (now (c .before .before .before .args .p)) ≡ true) × (isSized (now (c .before .before .before .args .q)) ≡ true)
 sized-at c =
-    let b = both (eqb (c .before .before .before .args .k) 102) _ (c .if1 .taken) in
+    let b = and-eq-true-iff (eqb (c .before .before .before .args .k) 102) _ .0 (c .if1 .taken) in
     c .before .before .before .pre .1 (eqb-true _ _ (b .0)) (eqb-true _ _ (b .1))
 
 name-of-requires : tie.Need-name-of-requires

@@ -1,6 +1,5 @@
 -- `writer::has_comment` meets its contract.
 use borrow.Author.Needs.{needs}
-use native.Mathlib.Omega.{arith}
 use Rattle.text.proofs.Parts.{tail-part, head-parts, field-parts}
 use Rattle.writer.proofs.Fields.{commented-is}
 use Rattle.writer.proofs.has_comment.Statement.{statement}

@@ -1,10 +1,8 @@
 -- `writer::is_unit` meets its contract.
-use borrow.Author.Needs.{needs}
 use native.Mathlib.Omega.{arith}
 use mathlib.Core.Path.{sym, _∙_}
 use borrow.Author.Tests.{eq-eqb, ne-eqb}
 use Rattle.text.proofs.Parts.{plain-size}
-use Rattle.schema.proofs.Steps.{at-plain}
 use Rattle.writer.proofs.Types.{type-record, unit-at, plain-at}
 use Rattle.writer.proofs.is_unit.Statement.{statement}
 use Rattle.writer.proofs.is_unit.Tie as tie

@@ -1,5 +1,4 @@
 -- `writer::put_declaration` meets its contract.
-use borrow.Author.Needs.{needs}
 use native.Mathlib.Omega.{arith}
 use Rattle.wire.proofs.Laws.{wrote-length}
 use Rattle.writer.proofs.Declarations.{head-at, declared}

@@ -1,5 +1,4 @@
 -- `writer::put_schema` meets its contract.
-use borrow.Author.Needs.{needs}
 use Rattle.wire.proofs.Laws.{wrote-length}
 use Rattle.writer.proofs.Answers.{whole-text}
 use Rattle.writer.proofs.put_schema.Statement.{statement}

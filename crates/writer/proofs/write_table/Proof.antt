@@ -1,8 +1,6 @@
 -- `writer::write_table` meets its contract.
 use borrow.Author.Needs.{needs}
 use native.Mathlib.Omega.{arith}
-use denote.Ref.{now}
-use lib.ListN.{length}
 use Rattle.schema.proofs.Verdict.{fine}
 use Rattle.wire.proofs.Numbers.{all-bytes}
 use Rattle.writer.proofs.Answers.{surely-fits}
