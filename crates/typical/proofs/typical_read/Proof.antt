@@ -1,19 +1,23 @@
--- `typical::typical_read` meets its contract: each case of the answer is told.
+-- `typical::typical_read` meets its contract: nothing is an empty schema, and each case of the answer is told.
 use borrow.Author.Needs.{needs}
-use Rattle.typical.proofs.Told.{told}
+use denote.Ref.{now}
+use Rattle.typical.proofs.Told.{case-told, nothing-told}
 use Rattle.typical.proofs.typical_read.Statement.{statement}
 use Rattle.typical.proofs.typical_read.Tie as tie
 
 returns : tie.Need-returns
-returns c = told (c .before .before .before .before .before .read .ensures) (c .before .number .given .1)
+returns c = nothing-told (now (c .before .before .before .args .out)) (c .if1 .taken)
 
 returns-2 : tie.Need-returns-2
-returns-2 c = told (c .before .before .before .before .before .read .ensures) (c .before .length .given .1)
+returns-2 c = case-told (c .before .before .before .before .before .read .ensures) (c .before .number .given .1)
 
 returns-3 : tie.Need-returns-3
-returns-3 c = told (c .before .before .before .before .before .read .ensures) (c .before .length2 .given .1)
+returns-3 c = case-told (c .before .before .before .before .before .read .ensures) (c .before .length .given .1)
+
+returns-4 : tie.Need-returns-4
+returns-4 c = case-told (c .before .before .before .before .before .read .ensures) (c .before .length2 .given .1)
 
 pub typical-read-spec : {M : Type 1} → statement M
 typical-read-spec =
     tie.close
-    (tie.spec (λ c κs. search needs) (λ c. search needs) (λ c. search needs) (λ c. search needs) (λ c. search needs) returns (λ c. search needs) returns-2 (λ c. search needs) returns-3)
+    (tie.spec returns (λ c κs. search needs) (λ c. search needs) (λ c. search needs) (λ c. search needs) (λ c. search needs) returns-2 (λ c. search needs) returns-3 (λ c. search needs) returns-4)

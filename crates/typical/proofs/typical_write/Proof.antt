@@ -1,14 +1,14 @@
 -- `typical::typical_write` meets its contract: each case of the answer is told.
 use borrow.Author.Needs.{needs}
-use Rattle.typical.proofs.Told.{told}
+use Rattle.typical.proofs.Told.{case-told}
 use Rattle.typical.proofs.typical_write.Statement.{statement}
 use Rattle.typical.proofs.typical_write.Tie as tie
 
 returns : tie.Need-returns
-returns c = told (c .before .before .before .before .before .write .ensures) (c .before .number .given .1)
+returns c = case-told (c .before .before .before .before .before .write .ensures) (c .before .number .given .1)
 
 returns-2 : tie.Need-returns-2
-returns-2 c = told (c .before .before .before .before .before .write .ensures) (c .before .length .given .1)
+returns-2 c = case-told (c .before .before .before .before .before .write .ensures) (c .before .length .given .1)
 
 pub typical-write-spec : {M : Type 1} → statement M
 typical-write-spec =
