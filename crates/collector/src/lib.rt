@@ -104,8 +104,8 @@ fn push_declarations(
     *errors = grown(*errors, to);
 }
 
-// The errors of a table that token::check passed, of which `end` is the last token's end. The lent lists have room for a place of each token.
-pub fn collect(
+// The schema's rules in turn: the errors of a table that token::check passed, of which `end` is the last token's end. The lent lists have room for a place of each token.
+pub fn parse_schema(
     out: &mut [u8],
     t: &[u8],
     end: u32,

@@ -8,6 +8,7 @@ use Rattle.wire.specs.Bytes.{Bytes}
 use Rattle.wire.specs.Put.{Wrote}
 use Rattle.token.specs.Token.{Token, endOf}
 use Rattle.token.specs.Places.{tokensFrom, Wf}
+use Rattle.schema.specs.Ast.{Range}
 use Rattle.grammar.specs.Tree.{FieldTree, DeclarationTree, ImportTree}
 use Rattle.grammar.specs.Error.{Error, errorsBytes}
 use Rattle.grammar.specs.Condition.{indexErrors}
@@ -15,6 +16,7 @@ use Rattle.grammar.specs.Reading.{Reading, is, front, skip, parseFields, parseD
 use Rattle.token.specs.Kind.{kInteger}
 use Rattle.parser.specs.Steps.{ahead}
 use Rattle.parser.specs.declared.Cursor.{Cursor}
+use Rattle.judge.specs.declared.SourceRange.{SourceRange}
 use Rattle.judge.specs.declared.Judged.{Judged}
 
 pub record Judges {A : Type 0} (t o : Bytes) (at : ℕ) (R : Reading A) (o′ : Bytes) (r : Judged) : Type 0 where
@@ -37,6 +39,9 @@ pub record Room (t : Bytes) (c : Cursor) (items spare : List ℕ) : Type 0 where
 pub record Judgeable (t : Bytes) (end : ℕ) (items spare : List ℕ) : Type 0 where
   pub room : Room t (record { at = 0 }) items spare
   pub last : end ≡ endOf 0 (tokensFrom t 0)
+
+abbrev pub sourceRange : Range → SourceRange
+sourceRange r = record { start = r .start; end = r .end }
 
 abbrev pub errorOf : ℕ → ℕ → ℕ → ℕ → Error
 errorOf number start end found = record { number = number; range = record { start = start; end = end }; found = found }

@@ -53,14 +53,14 @@ fn read_measured(
     requires { ⌜ Ready (now t) end (now imports) order (now items) (now spare) ⌝ }
     ensures { λ r. ⌜ Answers (now (t .entry)) (now (out .entry)) (now (out .exit)) r ⌝ }
 {
-    let needed = collector::collect(&mut out[..0], t, end, imports, order, items, spare);
+    let needed = collector::parse_schema(&mut out[..0], t, end, imports, order, items, spare);
     if needed.count == 0 {
         return read_schema(t, out, imports, order, items, spare);
     }
     if out.len() < needed.length {
         return Answer::Refused(8, 0);
     }
-    let list = collector::collect(out, t, end, imports, order, items, spare);
+    let list = collector::parse_schema(out, t, end, imports, order, items, spare);
     Answer::Errors(list.length)
 }
 
@@ -80,7 +80,7 @@ fn read_ordered(
     if out.len() / 14 < items.len() {
         return read_measured(t, out, end, imports, order, items, spare);
     }
-    let errors = collector::collect(out, t, end, imports, order, items, spare);
+    let errors = collector::parse_schema(out, t, end, imports, order, items, spare);
     if errors.count == 0 {
         return read_schema(t, out, imports, order, items, spare);
     }

@@ -12,11 +12,11 @@ use Rattle.reader.proofs.read_ordered.Statement.{statement}
 use Rattle.reader.proofs.read_ordered.Tie as tie
 
 read-schema-requires : tie.Need-read-schema-requires
-read-schema-requires c κs = clean (c .before .before .before .before .before .before .before .before .before .before .before .before .before .before .before .before .before .before .before .before .before .pre) (c .before .before .before .before .before .before .before .before .before .before .before .collect .ensures .number) (c .before .before .before .if2 .taken) (search needs) (search needs)
+read-schema-requires c κs = clean (c .before .before .before .before .before .before .before .before .before .before .before .before .before .before .before .before .before .before .before .before .before .pre) (c .before .before .before .before .before .before .before .before .before .before .before .parse-schema .ensures .number) (c .before .before .before .if2 .taken) (search needs) (search needs)
 
 returns-2 : tie.Need-returns-2
 returns-2 c =
-    let e = c .before .before .before .before .before .before .before .before .before .before .before .before .before .before .before .before .before .before .collect .ensures in
+    let e = c .before .before .before .before .before .before .before .before .before .before .before .before .before .before .before .before .before .before .parse-schema .ensures in
     rw (untouched _ (e .wrote) (e .number) (c .before .before .before .before .before .before .before .before .before .before .if2 .taken)) at (c .before .before .before .before .before .before .read-schema .ensures)
 
 returns-3 : tie.Need-returns-3
@@ -25,7 +25,7 @@ returns-3 c =
     let o = now (a .out) in
     let p = c .before .before .before .before .before .before .before .before .before .before .before .before .before .before .before .before .before .before .pre in
     let k : length o < 18446744073709551615 = omega arith in
-    let e = c .before .before .before .before .before .before .before .before .collect .ensures in
+    let e = c .before .before .before .before .before .before .before .before .parse-schema .ensures in
     let f = errors-fit (tokensFrom (now (a .t)) 0) (length (now (a .items))) o (p .list) (c .before .before .before .before .before .before .before .before .before .before .before .before .if1 .left) in
     errors-written (now (a .t)) o (p .checked .decodes) (errors-some _ (e .number) (c .if2 .left)) (le-leb _ _ f) (landed o _ k f (e .wrote))
 

@@ -1,4 +1,4 @@
--- `collector::collect` meets its contract, by a walk: the borrow checker covers no function that lends a struct, so this proof follows the
+-- `collector::parse_schema` meets its contract, by a walk: the borrow checker covers no function that lends a struct, so this proof follows the
 -- function's MIR by hand, statement by statement. The collector is made in a local, and lent by `&mut` to each rule in turn, from which it comes back
 -- at the value that the rule's contract says. The lists that both calls take are lent again for the first, come back, and go to the second for good.
 -- Of what it calls the walk knows the contracts alone. Assumes nothing.
@@ -66,10 +66,10 @@ use Rattle.collector.proofs.push_declarations as declarations
 use Rattle.collector.proofs.push_declarations.Symbol as declarations-def
 use Rattle.collector.proofs.push_declarations.Symbol.{name as #collector·push-declarations}
 use Rattle.collector.proofs.push_declarations.Met as declarations-thm
-use Rattle.collector.proofs.collect.Key.{name as #collector·collect}
-use Rattle.collector.proofs.collect as f
-use Rattle.collector.proofs.collect.Statement as stated
-use Rattle.collector.proofs.collect.Code as code
+use Rattle.collector.proofs.parse_schema.Key.{name as #collector·parse_schema}
+use Rattle.collector.proofs.parse_schema as f
+use Rattle.collector.proofs.parse_schema.Statement as stated
+use Rattle.collector.proofs.parse_schema.Code as code
 
 abbrev stayed : Stays (f.ended .signature .params) (f.ended .kept)
 stayed = (
@@ -318,10 +318,10 @@ module _ {M : Type 1} (𝓤 : URA M) (H : Heap 𝓤) (A : Atoms 𝓤) (W : Given
         by ! (exits (ws .0) (ws .1 .0) (ws .1 .1 .1 .1 .1 .0) (ws .1 .1 .1 .1 .1 .1 .0) (collected e₁ e₂ (ok .0)) (k₀ ∙ m₀) k₃ (k₄ ∙ m₄)))))))))))))))))))))))))))))))))))))))))))))))))
 
 module _ {M : Type 1} (𝓤 : URA M) (H : Heap 𝓤) (A : Atoms 𝓤) (W : Given 𝓤 H A) (mm : Memory → SProp 𝓤) (run : Routine → Fun 𝓤) where
-  collect-walks : (C : Calls 𝓤 H) (Λ : Loops 𝓤 H) → FmC 𝓤 H (W .laws) C → Triple 𝓤 (C #collector·push-imports) (ImportsAt 𝓤 H A mm run)
+  parse-schema-walks : (C : Calls 𝓤 H) (Λ : Loops 𝓤 H) → FmC 𝓤 H (W .laws) C → Triple 𝓤 (C #collector·push-imports) (ImportsAt 𝓤 H A mm run)
       → Triple 𝓤 (C #collector·push-declarations) (DeclarationsAt 𝓤 H A mm run)
       → Walks 𝓤 H A f.ended stayed (WpFn 𝓤 H C Λ code.function) (f.clauses 𝓤 H A mm run)
-  collect-walks C Λ fm known-imports known-declarations =
+  parse-schema-walks C Λ fm known-imports known-declarations =
       walked 𝓤 H A f.ended stayed (f.clauses 𝓤 H A mm run) (WpFn 𝓤 H C Λ code.function) (λ κs. (slice-vals, (slice-vals, (uint-vals w32, (slice-vals, (LL.vals O.the-type O′.the-laws, (slice-vals, (slice-vals, tt))))))))
       (λ κs. (
         mut-slice-tells (named 0) (κs .0) u8,
@@ -361,18 +361,18 @@ module _ {M : Type 1} (𝓤 : URA M) (H : Heap 𝓤) (A : Atoms 𝓤) (W : Given
     ),
   )
 
-collect-meets : {M : Type 1} (𝓤 : URA M) (H : Heap 𝓤) (A : Atoms 𝓤) (W : Given 𝓤 H A) (mm : Memory → SProp 𝓤) (run : Routine → Fun 𝓤) (𝓣 : Tables 𝓤 H)
+parse-schema-meets : {M : Type 1} (𝓤 : URA M) (H : Heap 𝓤) (A : Atoms 𝓤) (W : Given 𝓤 H A) (mm : Memory → SProp 𝓤) (run : Routine → Fun 𝓤) (𝓣 : Tables 𝓤 H)
     → Triple 𝓤 (𝓣 .C #collector·push-imports) (ImportsAt 𝓤 H A mm run) → Triple 𝓤 (𝓣 .C #collector·push-declarations) (DeclarationsAt 𝓤 H A mm run)
     → Meets 𝓤 H A f.signature (WpFn 𝓤 H (𝓣 .C) (𝓣 .Λ) code.function) (f.spec 𝓤 H A mm run)
-collect-meets 𝓤 H A W mm run 𝓣 known-imports known-declarations =
+parse-schema-meets 𝓤 H A W mm run 𝓣 known-imports known-declarations =
     walk-meets 𝓤 H A f.ended stayed W (goes 𝓤 H A W mm run) (f.clauses 𝓤 H A mm run) (WpFn 𝓤 H (𝓣 .C) (𝓣 .Λ) code.function) (WpFn-mono 𝓤 H (W .laws) 𝓣 code.function)
-    (collect-walks 𝓤 H A W mm run (𝓣 .C) (𝓣 .Λ) (fmOf 𝓤 H (W .laws) 𝓣) known-imports known-declarations)
+    (parse-schema-walks 𝓤 H A W mm run (𝓣 .C) (𝓣 .Λ) (fmOf 𝓤 H (W .laws) 𝓣) known-imports known-declarations)
 
-pub collect-spec : {M : Type 1} → stated.statement M
+pub parse-schema-spec : {M : Type 1} → stated.statement M
 unfolding code.routine tablesOf
-collect-spec 𝓤 H 𝓜 𝓖 𝓡 =
+parse-schema-spec 𝓤 H 𝓜 𝓖 𝓡 =
     entered 𝓤 H (tripleOf 𝓤 H (𝓖 .A) f.signature (f.spec 𝓤 H (𝓖 .A) (𝓜 .mem) (𝓡 .run)))
-    (tables 𝓤 H 𝓜 𝓡 code.env .C) (tables 𝓤 H 𝓜 𝓡 code.env .Λ) #collector·collect code.function (code.unfolded 𝓤 H 𝓜 𝓡)
-    (collect-meets 𝓤 H (𝓖 .A) (givenOf 𝓤 H 𝓜 𝓖) (𝓜 .mem) (𝓡 .run) (tablesOf 𝓤 H 𝓜 (tables 𝓤 H 𝓜 𝓡 code.env))
+    (tables 𝓤 H 𝓜 𝓡 code.env .C) (tables 𝓤 H 𝓜 𝓡 code.env .Λ) #collector·parse_schema code.function (code.unfolded 𝓤 H 𝓜 𝓡)
+    (parse-schema-meets 𝓤 H (𝓖 .A) (givenOf 𝓤 H 𝓜 𝓖) (𝓜 .mem) (𝓡 .run) (tablesOf 𝓤 H 𝓜 (tables 𝓤 H 𝓜 𝓡 code.env))
     (cited 𝓤 H (ImportsAt 𝓤 H (𝓖 .A) (𝓜 .mem) (𝓡 .run)) 𝓜 𝓡 code.env #collector·push-imports imports-def.routine code.calls-collector·push-imports (imports-thm.met 𝓤 H 𝓜 𝓖 𝓡))
     (cited 𝓤 H (DeclarationsAt 𝓤 H (𝓖 .A) (𝓜 .mem) (𝓡 .run)) 𝓜 𝓡 code.env #collector·push-declarations declarations-def.routine code.calls-collector·push-declarations (declarations-thm.met 𝓤 H 𝓜 𝓖 𝓡)))
