@@ -82,8 +82,20 @@ def slower(rows, seeded):
                 out.append(f"- {name}, {SIDES[side]}, from the bytes: {times:.2f} times as fast as the Rust.")
     count, first = seeded[0].split()[0], seeded[1].split()
     return "\n".join(out or ["On no table here, from the bytes."]) + (
-        f"\n\nOf {int(count):,} random tables that are not refused, the one that gained least was read, and written where it is a schema, "
-        f"{first[0]} times as fast as by the Rust: it has {first[4]} tokens in {first[6]} bytes. (`bench {sides(rows)[0]} seeded 1 3000`)")
+        f"\n\nOf {int(count):,} random tables that are not refused the one that gained least, {plural(int(first[4]), 'token')} in {first[6]} bytes, was answered {first[0]} times as fast as by the Rust "
+        f"(`bench {sides(rows)[0]} seeded 1 3000`). Before it reads anything, a call of the static library touches the pages of the lists that the largest table would need, some 60 ns, because its compiler "
+        "lays the function that makes them into `read`; only tables of a few tokens notice it.")
+
+
+def ordered(rows):
+    """Nanoseconds a byte to read what has to be put in order, and an ordinary large table."""
+    def each(side):
+        return ", ".join(f"{rows[name]['read', side] / rows[name]['bytes']:.2f} for {name}" for name in ("largest", "imports-reversed", "deleted-reversed"))
+    return "\n".join(f"- {SIDES[side].capitalize()}: {each(side)}" for side in sides(rows))
+
+
+def plural(n, word):
+    return f"{n} {word}" + "s" * (n != 1)
 
 
 def page(rows, seeded):
@@ -102,6 +114,7 @@ def page(rows, seeded):
     out += [f"| {name} | {row['tokens']:,} | {row['bytes']:,} | {ABOUT[name]} |" for name, row in rows.items()]
     for task, (title, what) in TASKS.items():
         out += ["", f"## {title}: {what}", "", table(rows, task)]
+    out += ["", "## In reverse order: nanoseconds a byte, to read", "", ordered(rows)]
     out += ["", "## Where the Rust is faster", "", slower(rows, seeded)]
     return "\n".join(out) + "\n"
 
