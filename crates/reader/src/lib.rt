@@ -105,6 +105,16 @@ fn read_with(
 }
 
 // The lists that sorting needs, as long as the table wants them: a small table doesn't pay for a large one's.
+fn read_tiny(t: &[u8], out: &mut [u8], end: u32) -> Answer
+    requires { ⌜ (Checked (now t) end) × (length (tokensFrom (now t) 0) ≤ 8) ⌝ }
+    ensures { λ r. ⌜ Answers (now (t .entry)) (now (out .entry)) (now (out .exit)) r ⌝ }
+{
+    let mut imports = [0u64; 8];
+    let mut items = [0u64; 8];
+    let mut spare = [0u64; 8];
+    read_with(t, out, end, &mut imports, &mut items, &mut spare)
+}
+
 fn read_small(t: &[u8], out: &mut [u8], end: u32) -> Answer
     requires { ⌜ (Checked (now t) end) × (length (tokensFrom (now t) 0) ≤ 64) ⌝ }
     ensures { λ r. ⌜ Answers (now (t .entry)) (now (out .entry)) (now (out .exit)) r ⌝ }
@@ -148,6 +158,9 @@ fn read_from(table: &[u8], at: usize, out: &mut [u8]) -> Answer
     match checked {
         token::Checked::Refused(number, offset) => Answer::Refused(number, offset),
         token::Checked::Fine(count, end) => {
+            if count <= 8 {
+                return read_tiny(t, out, end);
+            }
             if count <= 64 {
                 return read_small(t, out, end);
             }

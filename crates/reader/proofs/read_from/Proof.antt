@@ -14,37 +14,45 @@ returns c =
     let a = c .before .before .before .before .args in
     nothing-read (now (a .out)) (rw length-drop (omega (arith, c .if1 .taken)))
 
-read-small-requires : tie.Need-read-small-requires
-read-small-requires c κs = let p = passed (c .before .before .before .before .before .check .ensures) (c .before .before .before .checked2 .given .1) in (p .0, omega (arith, p .1))
+read-tiny-requires : tie.Need-read-tiny-requires
+read-tiny-requires c κs = let p = passed (c .before .before .before .before .before .check .ensures) (c .before .before .before .checked2 .given .1) in (p .0, omega (arith, p .1))
 
 returns-2 : tie.Need-returns-2
 returns-2 c =
     let a = c .before .before .before .before .before .before .before .before .before .before .before .before .before .args in
-    rw (part-from (now (a .table)) (a .at)) at (c .before .before .read-small .ensures)
+    rw (part-from (now (a .table)) (a .at)) at (c .before .before .read-tiny .ensures)
 
-read-medium-requires : tie.Need-read-medium-requires
-read-medium-requires c κs = let p = passed (c .before .before .before .before .before .before .check .ensures) (c .before .before .before .before .checked2 .given .1) in (p .0, omega (arith, p .1))
+read-small-requires : tie.Need-read-small-requires
+read-small-requires c κs = let p = passed (c .before .before .before .before .before .before .check .ensures) (c .before .before .before .before .checked2 .given .1) in (p .0, omega (arith, p .1))
 
 returns-3 : tie.Need-returns-3
 returns-3 c =
     let a = c .before .before .before .before .before .before .before .before .before .before .before .before .before .before .args in
-    rw (part-from (now (a .table)) (a .at)) at (c .before .before .read-medium .ensures)
+    rw (part-from (now (a .table)) (a .at)) at (c .before .before .read-small .ensures)
 
-read-large-requires : tie.Need-read-large-requires
-read-large-requires c κs = let p = passed (c .before .before .before .before .before .before .check .ensures) (c .before .before .before .before .checked2 .given .1) in (p .0, wf-few (p .0 .wf))
+read-medium-requires : tie.Need-read-medium-requires
+read-medium-requires c κs = let p = passed (c .before .before .before .before .before .before .before .check .ensures) (c .before .before .before .before .before .checked2 .given .1) in (p .0, omega (arith, p .1))
 
 returns-4 : tie.Need-returns-4
 returns-4 c =
-    let a = c .before .before .before .before .before .before .before .before .args in
-    rw (part-from (now (a .table)) (a .at)) at (stopped (now (a .out)) (c .before .before .before .check .ensures) (c .before .checked .given .1))
+    let a = c .before .before .before .before .before .before .before .before .before .before .before .before .before .before .before .args in
+    rw (part-from (now (a .table)) (a .at)) at (c .before .before .read-medium .ensures)
+
+read-large-requires : tie.Need-read-large-requires
+read-large-requires c κs = let p = passed (c .before .before .before .before .before .before .before .check .ensures) (c .before .before .before .before .before .checked2 .given .1) in (p .0, wf-few (p .0 .wf))
 
 returns-5 : tie.Need-returns-5
 returns-5 c =
-    let a = c .before .before .before .before .before .before .before .before .before .before .before .before .before .before .args in
+    let a = c .before .before .before .before .before .before .before .before .args in
+    rw (part-from (now (a .table)) (a .at)) at (stopped (now (a .out)) (c .before .before .before .check .ensures) (c .before .checked .given .1))
+
+returns-6 : tie.Need-returns-6
+returns-6 c =
+    let a = c .before .before .before .before .before .before .before .before .before .before .before .before .before .before .before .args in
     rw (part-from (now (a .table)) (a .at)) at (c .before .before .read-large .ensures)
 
 pub read-from-spec : {M : Type 1} → statement M
 read-from-spec =
     tie.close
-    (tie.spec (λ c. search needs) (λ c. search needs) (λ c. search needs) returns (λ c κs. search needs) (λ c. search needs) (λ c. search needs) read-small-requires (λ c. search needs) returns-2
-    read-medium-requires (λ c. search needs) returns-3 read-large-requires returns-4 (λ c. search needs) returns-5)
+    (tie.spec (λ c. search needs) (λ c. search needs) (λ c. search needs) returns (λ c κs. search needs) (λ c. search needs) (λ c. search needs) read-tiny-requires (λ c. search needs) returns-2 read-small-requires (λ c. search needs) returns-3
+    read-medium-requires (λ c. search needs) returns-4 read-large-requires returns-5 (λ c. search needs) returns-6)
