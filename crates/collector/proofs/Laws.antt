@@ -21,7 +21,8 @@ use Rattle.collector.specs.declared.Collector.{Collector}
 use Rattle.collector.specs.declared.Imports.{Imports}
 
 -- the end of a list of errors that begins at `at`
-end-is : {o o′ : Bytes} {at r : ℕ} (es : List Error) → Wrote o at (errorsBytes es) o′ r → at ≤ 18446744073709551615 → r ≡ min (at + 14 * length es) 18446744073709551615
+end-is : {o o′ : Bytes} {at r : ℕ} (es : List Error) → Wrote o at (errorsBytes es) o′ r → at ≤ 18446744073709551615
+    → r ≡ min (at + 14 * length es) 18446744073709551615
 end-is {o} {o′} {at} {r} es w h = omega (arith, w .place, adv-is (errorsBytes es) at h, errors-length es)
 
 -- two lists, one after the other
@@ -45,11 +46,14 @@ pub grows : {c : Collector} {o o′ : Bytes} {to : ℕ} (es : List Error) → Co
 grows es few fits w = record { few = few; on = omega (arith, fits, end-is es w (omega (arith, fits))) }
 
 -- a rule's errors, and the collector grown to their end
-pub imports-pushed : {t : Bytes} {end : ℕ} {o : Bytes} {c : Collector} {o′ : Bytes} {c′ : Collector} {r : Imports} → ImportsFrom t end o (c .length) o′ r → c′ ≡ grownTo c (r .to)
+pub imports-pushed : {t : Bytes} {end : ℕ} {o : Bytes} {c : Collector} {o′ : Bytes} {c′ : Collector} {r : Imports} → ImportsFrom t end o (c .length) o′ r
+    → c′ ≡ grownTo c (r .to)
     → ImportsPushed t end o c o′ c′ (r .next)
-imports-pushed {t} {end} {o} {c} {o′} {r = r} v e = subst (λ (d : Collector). ImportsPushed t end o c o′ d (r .next)) (sym e) (record { wrote = v; grown = refl })
+imports-pushed {t} {end} {o} {c} {o′} {r = r} v e =
+    subst (λ (d : Collector). ImportsPushed t end o c o′ d (r .next)) (sym e) (record { wrote = v; grown = refl })
 
-pub declarations-pushed : {t : Bytes} {from end : ℕ} {o : Bytes} {c : Collector} {o′ : Bytes} {c′ : Collector} {r : ℕ} → DeclarationsFrom t from end o (c .length) o′ r → c′ ≡ grownTo c r
+pub declarations-pushed : {t : Bytes} {from end : ℕ} {o : Bytes} {c : Collector} {o′ : Bytes} {c′ : Collector} {r : ℕ}
+    → DeclarationsFrom t from end o (c .length) o′ r → c′ ≡ grownTo c r
     → DeclarationsPushed t from end o c o′ c′
 declarations-pushed {t} {from} {end} {o} {c} {o′} v e = subst (DeclarationsPushed t from end o c o′) (sym e) (record { wrote = v; grown = refl })
 
@@ -61,7 +65,8 @@ module _ {t : Bytes} {end : ℕ} {o o₁ : Bytes} {c₁ : Collector} {next : ℕ
       → Room t (record { at = next }) items′ spare′
   room-after p x y = imports-room (p .room) (v .wrote .before) end (v .wrote .judged) x y
 
-  pub collected : {o₂ : Bytes} {c₂ : Collector} {items spare : List ℕ} → DeclarationsPushed t next end o₁ c₁ o₂ c₂ → Judgeable t end items spare → Collected t o o₂ c₂
+  pub collected : {o₂ : Bytes} {c₂ : Collector} {items spare : List ℕ} → DeclarationsPushed t next end o₁ c₁ o₂ c₂ → Judgeable t end items spare
+      → Collected t o o₂ c₂
   collected {c₂ = c₂} w p =
       let all = schema-judged (p .last) (v .wrote .before) (v .wrote .judged) (w .wrote) in
       let n = count-is _ _ (v .wrote .judged .wrote) (w .wrote) _ all (omega (arith, wf-few (p .room .wf), errors-at-most-tokens (tokensFrom t 0))) in

@@ -36,12 +36,16 @@ module _ {M : Type 1} (𝓤 : URA M) (H : Heap 𝓤) (A : Atoms 𝓤) (W : Given
   pub struct-in : Is T.the-row g (mach g ∷ []) → ent 𝓤 (H .at fullShare T′.mir b 0 (mach g)) (sem 𝓤 H A (partAt T.the-row fullShare g b 0))
   unfolding partOf
   struct-in is =
-      qed W (‵ (fat fullShare T′.mir b 0 (mach g)) ∷ []) ∵ use1 W (‵ (cellAt fullShare (T.the-row .mir) (mach g ∷ []) b 0)) (W .laws .at-raw fullShare T′.mir b 0 (mach g)) $
+      qed W (‵ (fat fullShare T′.mir b 0 (mach g)) ∷ []) ∵ use1 W (‵ (cellAt fullShare (T.the-row .mir) (mach g ∷ []) b 0))
+      (W .laws .at-raw fullShare T′.mir b 0 (mach g)) $
       owned ! T.the-row (Is T.the-row) ((LL.makes T.the-type T′.the-plain) 𝓤 H A) g _ is $ move ! (1 ∷ 0 ∷ []) $ fjoin ! $
       fpack ! (List Val) (λ us. fsep (cellAt fullShare (T.the-row .mir) us b 0) (T.the-row .own g us)) (mach g ∷ []) $ done !
 
-  pub struct-out : ent 𝓤 (sem 𝓤 H A (partAt T.the-row fullShare g b 0)) (sep 𝓤 (H .at fullShare T′.mir b 0 (mach g)) (sem 𝓤 H A (T.the-row .own g (mach g ∷ []))))
+  pub struct-out : ent 𝓤 (sem 𝓤 H A (partAt T.the-row fullShare g b 0))
+      (sep 𝓤 (H .at fullShare T′.mir b 0 (mach g)) (sem 𝓤 H A (T.the-row .own g (mach g ∷ []))))
   unfolding partOf
   struct-out =
-      qed W (‵ (partAt T.the-row fullShare g b 0) ∷ []) ∵ fpick ! (λ vs. fsplit ! $ spelt ! T.the-row (Is T.the-row) (shows 𝓤 H A T.the-row) (LL.vals T.the-type T′.the-laws) (LL.tells T.the-type T′.the-laws) fullShare g vs b 0 $
+      qed W (‵ (partAt T.the-row fullShare g b 0) ∷ []) ∵ fpick !
+      (λ vs. fsplit ! $ spelt ! T.the-row (Is T.the-row) (shows 𝓤 H A T.the-row) (LL.vals T.the-type T′.the-laws) (LL.tells T.the-type T′.the-laws) fullShare g
+      vs b 0 $
       use1 W (‵ (fat fullShare T′.mir b 0 (mach g))) (W .laws .raw-at fullShare T′.mir b 0 (mach g)) $ done !)

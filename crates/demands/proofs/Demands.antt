@@ -102,7 +102,8 @@ pub one-derivation : {ts : List Token} {tree other : SchemaTree} → Derives ts 
 one-derivation = told′.one-derivation
 
 -- ---- What reading wrote as a schema, writing accepts: it answers the text of the derivation's schema, or R8, never R1 or R9.
-module _ {table before after out out′ : Bytes} {n : ℕ} {w : Written} (ts : List Token) (tree : SchemaTree) (a : AllBytes table) (d : decode table ≡ tokens ts) (t : Derives ts tree)
+module _ {table before after out out′ : Bytes} {n : ℕ} {w : Written} (ts : List Token) (tree : SchemaTree) (a : AllBytes table) (d : decode table ≡ tokens ts)
+    (t : Derives ts tree)
     (p : Answers table before after (Schema n)) (q : Writes (take n after) out out′ w) where
   pub written : TextWritten (schemaOf tree) out out′ w
   written = texts.text-of-read ts tree a d t (told′.schema-read p) q
@@ -111,14 +112,16 @@ module _ {table before after out out′ : Bytes} {n : ℕ} {w : Written} (ts : L
   written-or-long e = texts.refused-long written e
 
 -- ---- A second answer that a promise allows is the first, and leaves the same buffer.
-pub read-once : {table before after after′ : Bytes} {r r′ : Answer} → Answers table before after r → Answers table before after′ r′ → (r ≡ r′) × (after ≡ after′)
+pub read-once : {table before after after′ : Bytes} {r r′ : Answer} → Answers table before after r → Answers table before after′ r′
+    → (r ≡ r′) × (after ≡ after′)
 read-once p q = (p .answer ∙ sym (q .answer), p .buffer ∙ sym (q .buffer))
 
 pub write-once : {t out after after′ : Bytes} {w w′ : Written} → Writes t out after w → Writes t out after′ w′ → (w ≡ w′) × (after ≡ after′)
 write-once p q = (p .answer ∙ sym (q .answer), p .buffer ∙ sym (q .buffer))
 
 -- snake_case, camel_case, pascal_case, join and text
-pub name-once : {good : Bool} {bs out after after′ : Bytes} {r r′ : Name} → Names good bs out after r → Names good bs out after′ r′ → (r ≡ r′) × (after ≡ after′)
+pub name-once : {good : Bool} {bs out after after′ : Bytes} {r r′ : Name} → Names good bs out after r → Names good bs out after′ r′
+    → (r ≡ r′) × (after ≡ after′)
 name-once p q = (p .answer ∙ sym (q .answer), p .buffer ∙ sym (q .buffer))
 
 pub relativize-once : {good : Bool} {bs out after after′ : Bytes} {up : ℕ} {r r′ : Relative} → Relatives good bs up out after r

@@ -25,7 +25,8 @@ fault-small : (last row : ℕ) (bs : Bytes) → faultOf last row bs ≤ 7
 unfolding faultOf tokenFault pick
 fault-small last row bs =
     let t = tokenOf bs in
-    go (not (isWhole bs)) (not (within 1 25 (t .kind))) (not (isPayload (t .kind) (t .payload))) (not (leb last (t .start) && leb (t .start) (t .end))) (ltb 64 (rowAfter row (t .kind)))
+    go (not (isWhole bs)) (not (within 1 25 (t .kind))) (not (isPayload (t .kind) (t .payload))) (not (leb last (t .start) && leb (t .start) (t .end)))
+    (ltb 64 (rowAfter row (t .kind)))
   where
     go : (a b c d e : Bool) → pick a 2 (pick b 3 (pick c 4 (pick d 5 (pick e 7 0)))) ≤ 7
     go true b c d e = omega arith
@@ -49,7 +50,8 @@ from-number (suc n) at last row (b ∷ bs) {k} {o} h = go (faultOf last row x) r
     x = b ∷ bs
 
     go : (f : ℕ) → f ≡ faultOf last row x → faultOf last row x ≤ 7
-        → (decodeFrom n (at + sizeOf x) (tokenOf x .end) (rowAfter row (tokenOf x .kind)) (drop (sizeOf x) x) ≡ refused k o → (1 ≤ k) × (k ≤ 7)) → (1 ≤ k) × (k ≤ 7)
+        → (decodeFrom n (at + sizeOf x) (tokenOf x .end) (rowAfter row (tokenOf x .kind)) (drop (sizeOf x) x) ≡ refused k o → (1 ≤ k) × (k ≤ 7))
+        → (1 ≤ k) × (k ≤ 7)
     go zero e l ih =
         let q = sym (decode-next at last row (suc n) x (λ z. omega arith) (omega arith) (sym e)) ∙ h in
         ih (add-refused (tokenOf x) _ (rw sub-one at q))

@@ -25,7 +25,8 @@ use Rattle.demands.specs.Outcome.{Refusal}
 same-write : {a b c d : ℕ} → _≡_ {A = Written} (write.Refused a b) (write.Refused c d) → (a ≡ c) × (b ≡ d)
 same-write h = (cc, cc)
 
-write-fits : (out : Bytes) (text : Bytes) (b : Bool) {n o : ℕ} → write.Refused n o ≡ pick b (write.Text (length text)) (write.Refused 8 0) → leb (length text) (length out) ≡ b
+write-fits : (out : Bytes) (text : Bytes) (b : Bool) {n o : ℕ} → write.Refused n o ≡ pick b (write.Text (length text)) (write.Refused 8 0)
+    → leb (length text) (length out) ≡ b
     → ((n ≡ 8) × (o ≡ 0)) × (laid out text ≡ out)
 unfolding pick laid
 write-fits out text true h e = let z : _≡_ {A = ℕ} 0 1 = cc in absurd (omega arith)
@@ -62,5 +63,6 @@ with-refused : (up : ℕ) (a : Answer) {n o : ℕ} → relative.Refused n o ≡ 
 with-refused up (name.Written k) h = let z : _≡_ {A = ℕ} 0 1 = cc in absurd (omega arith)
 with-refused up (name.Refused k at) {n} {o} h = let p : n ≡ k = cc in let q : o ≡ at = cc in rw (p, q)
 
-pub relative-refusal : {good : Bool} {bs out out′ : Bytes} {up n o : ℕ} → Relatives good bs up out out′ (relative.Refused n o) → Refusal ((n ≡ 10) ⊎ (n ≡ 8)) o out out′
+pub relative-refusal : {good : Bool} {bs out out′ : Bytes} {up n o : ℕ} → Relatives good bs up out out′ (relative.Refused n o)
+    → Refusal ((n ≡ 10) ⊎ (n ≡ 8)) o out out′
 relative-refusal {good} {bs} {out} {up = up} p = rw (p .buffer) (name-refused good bs out (with-refused up (answerOf good bs out) (p .answer)))

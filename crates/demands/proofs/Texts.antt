@@ -42,7 +42,8 @@ writes-text {t} {out} {out′} {w} s l d p =
       long = λ h. let e = lt-leb (length text) (length out) h in (rw e at a, rw e at b);
     }
 
-pub text-of-read : {table before after out out′ : Bytes} {n : ℕ} {w : Written} (ts : List Token) (tree : SchemaTree) → AllBytes table → decode table ≡ tokens ts → Derives ts tree
+pub text-of-read : {table before after out out′ : Bytes} {n : ℕ} {w : Written} (ts : List Token) (tree : SchemaTree) → AllBytes table
+    → decode table ≡ tokens ts → Derives ts tree
     → SchemaRead table before after n → Writes (take n after) out out′ w → TextWritten (schemaOf tree) out out′ w
 text-of-read {table} {before} {after} {out} {out′} {n} {w} ts tree a d t r p =
     let s = schemaOf tree in

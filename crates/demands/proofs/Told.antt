@@ -48,7 +48,8 @@ told-refusal (reading.Answer.schema bs) h = let z : _≡_ {A = ℕ} 0 1 = cc in 
 told-refusal (reading.Answer.errors bs) h = let z : _≡_ {A = ℕ} 0 1 = cc in absurd (omega arith)
 
 -- an answer that is no refusal is one to tokens
-some-tokens : (table : Bytes) (room : ℕ) → ((number offset : ℕ) → readAnswer table room ≡ reading.Answer.refusal number offset → ⊥) → (ts : List Token) × (decode table ≡ tokens ts)
+some-tokens : (table : Bytes) (room : ℕ) → ((number offset : ℕ) → readAnswer table room ≡ reading.Answer.refusal number offset → ⊥)
+    → (ts : List Token) × (decode table ≡ tokens ts)
 some-tokens table room n = go (decode table) refl
   where
     go : (d : Decoded) → decode table ≡ d → (ts : List Token) × (decode table ≡ tokens ts)
@@ -76,12 +77,14 @@ errors-fitted : (room : ℕ) (o : Outcome) (bs : Bytes) → fitted room (answerO
 unfolding fitted pick
 errors-fitted room (Outcome.errors es) bs h = go (leb (length (errorsBytes es)) room) refl
   where
-    go : (b : Bool) → leb (length (errorsBytes es)) room ≡ b → (fs : List Error) × (_≡_ {A = Outcome} (Outcome.errors es) (Outcome.errors fs)) × (bs ≡ errorsBytes fs)
+    go : (b : Bool) → leb (length (errorsBytes es)) room ≡ b
+        → (fs : List Error) × (_≡_ {A = Outcome} (Outcome.errors es) (Outcome.errors fs)) × (bs ≡ errorsBytes fs)
     go true e = let k = rw e at h in (es, refl, cc)
     go false e = let k = rw e at h in let z : _≡_ {A = ℕ} 0 1 = cc in absurd (omega arith)
 errors-fitted room (Outcome.schema s) bs h = go (leb (length (encodeSchema s)) room) refl
   where
-    go : (b : Bool) → leb (length (encodeSchema s)) room ≡ b → (fs : List Error) × (_≡_ {A = Outcome} (Outcome.schema s) (Outcome.errors fs)) × (bs ≡ errorsBytes fs)
+    go : (b : Bool) → leb (length (encodeSchema s)) room ≡ b
+        → (fs : List Error) × (_≡_ {A = Outcome} (Outcome.schema s) (Outcome.errors fs)) × (bs ≡ errorsBytes fs)
     go true e = let k = rw e at h in let z : _≡_ {A = ℕ} 0 1 = cc in absurd (omega arith)
     go false e = let k = rw e at h in let z : _≡_ {A = ℕ} 0 1 = cc in absurd (omega arith)
 
@@ -133,7 +136,8 @@ fitted-refusal room o {n} {offset} h = go (leb (length (bytesOf (answerOf o))) r
     go true e = absurd (none o (rw e at h))
     go false e = let k = rw e at h in (cc, cc, omega (arith, leb-false (length (bytesOf (answerOf o))) room e))
 
-pub read-refusal : (table : Bytes) (room : ℕ) {n offset : ℕ} (ts : List Token) → decode table ≡ tokens ts → readAnswer table room ≡ reading.Answer.refusal n offset
+pub read-refusal : (table : Bytes) (room : ℕ) {n offset : ℕ} (ts : List Token) → decode table ≡ tokens ts
+    → readAnswer table room ≡ reading.Answer.refusal n offset
     → (n ≡ 8) × (offset ≡ 0) × (room < length (bytesOf (answerOf (parse ts))))
 read-refusal table room ts d h = fitted-refusal room (parse ts) (sym (read-tokens table room d) ∙ h)
 

@@ -19,7 +19,12 @@ pub record Body (end : ℕ) (h : HeadTree) (ts : List Token) (R : Reading (List 
   pub fields : parseFields (length ts) end ts .errors ≡ []
   pub right : Token
   pub kind : Is kRightCurly right
-  pub value : R .value ≡ record { head = h; fields = parseFields (length ts) end ts .value; deleted = parseDeleted (parseFields (length ts) end ts .rest) .value; right = right } ∷ []
+  pub value : R .value ≡ record {
+    head = h;
+    fields = parseFields (length ts) end ts .value;
+    deleted = parseDeleted (parseFields (length ts) end ts .rest) .value;
+    right = right;
+  } ∷ []
   pub first : skip isOther ts ≡ right ∷ R .rest
 
 pub body : (end : ℕ) (ts : List Token) {h : HeadTree} {r : List Token} → parseHead ts ≡ ok h r → parseDeclaration end ts .errors ≡ []
@@ -44,5 +49,6 @@ body end ts {h} {r} p e = rw (p, parseDeclaration) (go (consume 5 (is kRightCurl
           right = z;
           kind = c .1;
           value = refl;
-          first = ap (skip isOther) (f .0 ∙ ap (each yField (fs .value)) (g .read .0 ∙ ap (optionally yDeleted (d .value)) (c .0))) ∙ skip-body (fs .value) (d .value) z s (f .1) (g .read .1) (c .1);
+          first = ap (skip isOther) (f .0 ∙ ap (each yField (fs .value)) (g .read .0 ∙ ap (optionally yDeleted (d .value)) (c .0)))
+              ∙ skip-body (fs .value) (d .value) z s (f .1) (g .read .1) (c .1);
         }

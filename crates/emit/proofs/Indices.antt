@@ -40,7 +40,8 @@ unfolding IsItem
 all-items t [] = tt
 all-items t (n ∷ ns) = (tt, all-items t ns)
 
-pub sortable : {t : Bytes} {c : Cursor} {items spare : List ℕ} {r : Collected} → Numbers t c items r → length (ahead t c) ≤ length spare → Sortable (take (r .count) items) spare
+pub sortable : {t : Bytes} {c : Cursor} {items spare : List ℕ} {r : Collected} → Numbers t c items r → length (ahead t c) ≤ length spare
+    → Sortable (take (r .count) items) spare
 sortable {items = items} {r = r} g h =
     let l = length-take-le (r .count) items (g .few) in
     record { room = omega (arith, l, g .short, h); few = omega (arith, l, g .end, g .wf .inside, g .wf .small) }
@@ -53,7 +54,8 @@ some-indices : (ns : List ℕ) → (length ns ≡ 0 → ⊥) → recordBytes sDe
 some-indices [] n = absurd (n refl)
 some-indices (x ∷ ns) n = refl
 
-pub indices-written : (t : Bytes) (items : List ℕ) {items′ : List ℕ} {o : Bytes} {at : ℕ} {o₁ o₂ : Bytes} {a r : ℕ} → (length items ≡ 0 → ⊥) → items′ ≡ sortBy (itemBefore t Number) items
+pub indices-written : (t : Bytes) (items : List ℕ) {items′ : List ℕ} {o : Bytes} {at : ℕ} {o₁ o₂ : Bytes} {a r : ℕ} → (length items ≡ 0 → ⊥)
+    → items′ ≡ sortBy (itemBefore t Number) items
     → Wrote o at (headBytes (12 + 8 * length items) sDeleted 0 0) o₁ a → Wrote o₁ a (indices items′) o₂ r → Wrote o at (encodeDeleted (sortBy ltb items)) o₂ r
 indices-written t items {items′} n e p q =
     let k : length items′ ≡ length items = ap length e ∙ sort-length (itemBefore t Number) items in
@@ -68,8 +70,10 @@ no-deleted {t} {c} {o} {at} w k nothing = go (ahead t c) refl k
     go [] e n = record { wrote = nothing; rest = e; wf = w }
     go (x ∷ xs) e n = rw (ne-eqb (x .kind) kDeleted n, parseDeleted) (record { wrote = nothing; rest = e; wf = w })
 
-pub some-deleted : {t : Bytes} {c d : Cursor} {items : List ℕ} {r : Collected} {o : Bytes} {at : ℕ} {o′ : Bytes} {a : ℕ} → kindAt (ahead t c) ≡ kDeleted → Stepped t c d → Numbers t d items r
-    → Wrote o at (encodeDeleted (sortBy ltb (take (r .count) items))) o′ a → Emits t o at deletedBytes (parseDeleted (ahead t c)) o′ (record { out = a; next = r .next })
+pub some-deleted : {t : Bytes} {c d : Cursor} {items : List ℕ} {r : Collected} {o : Bytes} {at : ℕ} {o′ : Bytes} {a : ℕ} → kindAt (ahead t c) ≡ kDeleted
+    → Stepped t c d → Numbers t d items r
+    → Wrote o at (encodeDeleted (sortBy ltb (take (r .count) items))) o′ a
+    → Emits t o at deletedBytes (parseDeleted (ahead t c)) o′ (record { out = a; next = r .next })
 some-deleted {t} {c} {d} {items} {r} k p g w =
     let e : eqb (tokAt t (c .at) .kind) kDeleted ≡ true = eq-eqb _ _ (rw (p .first) at k) in
     rw (p .first, e, parseDeleted)

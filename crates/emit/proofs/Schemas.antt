@@ -30,7 +30,8 @@ end-none [] ts h = refl
 end-none (e ∷ es) ts h = absurd (cons≢nil h)
 
 module _ {t : Bytes} {imports : List ℕ} {order : Ordered} {items spare : List ℕ} (h : Readable t imports order items spare) where
-  none-told : (importsFrom t (order .from) .errors ≡ []) × (parseDeclarations (length (importsFrom t (order .from) .rest)) (lastEnd t) (importsFrom t (order .from) .rest) .errors ≡ [])
+  none-told : (importsFrom t (order .from) .errors ≡ []) × (parseDeclarations (length (importsFrom t (order .from) .rest)) (lastEnd t)
+      (importsFrom t (order .from) .rest) .errors ≡ [])
   none-told = both-nil (importsFrom t (order .from) .errors) _ (end-none _ _ (rw (h .orders .opening .read) at (h .errors)))
 
   rest : importsFrom t (order .from) .rest ≡ ahead t (order .next)
@@ -46,13 +47,21 @@ module _ {t : Bytes} {imports : List ℕ} {order : Ordered} {items spare : List 
   less =
       let R = importsFrom t (order .from) in
       let s = imports-sound (length (ahead t (order .from))) (lastEnd t) [] (ahead t (order .from)) (none-told .0) in
-      omega (arith, ap length rest, ap length (s .read .0), each-keeps yImport (λ i r. omega (arith, import-eats i r)) (R .value) (R .rest), h .orders .opening .short)
+      omega (
+        arith,
+        ap length rest,
+        ap length (s .read .0),
+        each-keeps yImport (λ i r. omega (arith, import-eats i r)) (R .value) (R .rest),
+        h .orders .opening .short,
+      )
 
   pub declarations-room : Room (ahead t (order .next)) items spare
   declarations-room = record { list = omega (arith, less, h .room .list); work = omega (arith, less, h .room .work) }
 
-  pub schema-written : {o o₁ o₂ o₃ : Bytes} {at a b z : ℕ} → Wrote o at (encodeComment (commentOf (when (order .comment) (tokAt t 0)))) o₁ a → Wrote o₁ a (importsAt t imports) o₂ b
-      → Wrote o₂ b (declarationsBytes (declarationsFrom t (order .next) .value)) o₃ z → Wrote o at (encodeSchema (schemaOf (parseSchema (tokensFrom t 0) .value))) o₃ z
+  pub schema-written : {o o₁ o₂ o₃ : Bytes} {at a b z : ℕ} → Wrote o at (encodeComment (commentOf (when (order .comment) (tokAt t 0)))) o₁ a
+      → Wrote o₁ a (importsAt t imports) o₂ b
+      → Wrote o₂ b (declarationsBytes (declarationsFrom t (order .next) .value)) o₃ z
+      → Wrote o at (encodeSchema (schemaOf (parseSchema (tokensFrom t 0) .value))) o₃ z
   unfolding encodeSchema
   schema-written x y w =
       rw (h .orders .opening .read) (then (then x (rw (orders-sorted (h .orders) (lastEnd t) (none-told .0)) at y)) (rw (← rest) at w))

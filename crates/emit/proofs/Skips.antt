@@ -6,7 +6,8 @@ use mathlib.Core.Option.{Option, none, some}
 use mathlib.Core.List.{List, [], _∷_}
 use Rattle.token.specs.Token.{Token}
 use Rattle.token.specs.Kind.{isPlain, isRule, kColon, kComment, kDeleted, kDot, kEquals, kIdentifier, kInteger, kLeftSquare, kRightCurly, kRightSquare}
-use Rattle.grammar.specs.Tree.{TypeTree, array, plain, single, dotted, TypePart, FieldTree, DeletedPart, optionally, each, yType, yTypePart, yField, yDeleted, Is, Passes, IfAny, All, WfType, WfTypePart, WfField, WfDeleted}
+use Rattle.grammar.specs.Tree.{TypeTree, array, plain, single, dotted, TypePart, FieldTree, DeletedPart, optionally, each, yType}
+use Rattle.grammar.specs.Tree.{yTypePart, yField, yDeleted, Is, Passes, IfAny, All, WfType, WfTypePart, WfField, WfDeleted}
 use Rattle.grammar.specs.Reading.{skip}
 use Rattle.grammar.proofs.Rules.{not-kind}
 use Rattle.emit.specs.Emits.{isOther}

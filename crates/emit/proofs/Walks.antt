@@ -125,7 +125,8 @@ module _ {t : Bytes} {c : Cursor} (k : Clear t c (declarationFrom t c)) where
     pub body-clear : Clear t from (fieldsFrom t from)
     body-clear = record { wf = p .read .wf; errors = parsed .fields }
 
-    pub body-room : {items spare : List ℕ} {o o′ : Bytes} {at : ℕ} {f : Emitted} → Room (ahead t c) items spare → Emits t o at fieldsBytes (fieldsFrom t from) o′ f
+    pub body-room : {items spare : List ℕ} {o o′ : Bytes} {at : ℕ} {f : Emitted} → Room (ahead t c) items spare
+        → Emits t o at fieldsBytes (fieldsFrom t from) o′ f
         → Room (ahead t (f .next)) items spare
     body-room {f = f} m e =
         let l : length (ahead t (f .next)) ≤ length (ahead t c) =
@@ -151,7 +152,8 @@ module _ {t : Bytes} {c : Cursor} (k : Clear t c (declarationFrom t c)) where
       first : tokAt t (right .at) ∷ tokensFrom t (nextAt t (right .at)) ≡ parsed .right ∷ declarationFrom t c .rest
       first = sym (tokens-step t (right .at) (right-stands .1)) ∙ tokens
 
-      pub declaration-written : {o o₁ o₂ o₃ : Bytes} {at a : ℕ} {f d : Emitted} {next : Cursor} → Wrote o at (encodeHead (headAt t h) (tokAt t (right .at))) o₁ a
+      pub declaration-written : {o o₁ o₂ o₃ : Bytes} {at a : ℕ} {f d : Emitted} {next : Cursor}
+          → Wrote o at (encodeHead (headAt t h) (tokAt t (right .at))) o₁ a
           → Emits t o₁ a fieldsBytes (fieldsFrom t from) o₂ f → Emits t o₂ (f .out) deletedBytes (parseDeleted (ahead t (f .next))) o₃ d → Stepped t right next
           → Emits t o at declarationsBytes (declarationFrom t c) o₃ (record { out = d .out; next = next })
       declaration-written w e g n =
@@ -173,7 +175,8 @@ bytes-append : (xs ys : List DeclarationTree) → declarationsBytes (xs ++ ys) �
 bytes-append xs ys = rw (map-append) (encode-append (map declarationOf xs) (map declarationOf ys))
 
 -- the declarations from c on are still to be written
-pub record Declaring (t : Bytes) (from : Cursor) (o₀ : Bytes) (a₀ : ℕ) (items₀ spare₀ : List ℕ) (o : Bytes) (a : ℕ) (items spare : List ℕ) (c : Cursor) : Type 0 where
+pub record Declaring (t : Bytes) (from : Cursor) (o₀ : Bytes) (a₀ : ℕ) (items₀ spare₀ : List ℕ) (o : Bytes) (a : ℕ) (items spare : List ℕ) (c : Cursor) : Type
+    0 where
   pub clear : Clear t c (declarationsFrom t c)
   pub left : Rest o a (declarationsBytes (declarationsFrom t c .value)) o₀ a₀ (declarationsBytes (declarationsFrom t from .value))
   pub room : Room (ahead t c) items spare
@@ -193,7 +196,8 @@ module _ {t : Bytes} {from : Cursor} {o₀ : Bytes} {a₀ : ℕ} {items₀ spare
     whole : declarationsFrom t c ≡ join (declarationFrom t c) (parseDeclarations (length (declarationFrom t c .rest)) (lastEnd t) (declarationFrom t c .rest))
     whole = rw first-of (declarations-next (lastEnd t) (tokAt t (c .at)) (tokensFrom t (nextAt t (c .at))))
 
-    none-told : (declarationFrom t c .errors ≡ []) × (parseDeclarations (length (declarationFrom t c .rest)) (lastEnd t) (declarationFrom t c .rest) .errors ≡ [])
+    none-told : (declarationFrom t c .errors ≡ []) × (parseDeclarations (length (declarationFrom t c .rest)) (lastEnd t) (declarationFrom t c .rest) .errors
+        ≡ [])
     none-told = both-nil (declarationFrom t c .errors) _ (rw whole at (s .clear .errors))
 
     pub declaration-clear : Clear t c (declarationFrom t c)
@@ -203,7 +207,8 @@ module _ {t : Bytes} {from : Cursor} {o₀ : Bytes} {a₀ : ℕ} {items₀ spare
       pub shrinks : length (ahead t (d .next)) < length (ahead t c)
       shrinks = rw (e .rest, first-of) (omega (arith, declaration-left (lastEnd t) (tokAt t (c .at)) (tokensFrom t (nextAt t (c .at)))))
 
-      pub declare-on : {items′ spare′ : List ℕ} → length items′ ≡ length items → length spare′ ≡ length spare → Declaring t from o₀ a₀ items₀ spare₀ o′ (d .out) items′ spare′ (d .next)
+      pub declare-on : {items′ spare′ : List ℕ} → length items′ ≡ length items → length spare′ ≡ length spare
+          → Declaring t from o₀ a₀ items₀ spare₀ o′ (d .out) items′ spare′ (d .next)
       declare-on p q =
           record {
             clear = record { wf = e .wf; errors = rw (e .rest) (none-told .1) };

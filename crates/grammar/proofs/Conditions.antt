@@ -13,7 +13,8 @@ use Rattle.token.specs.Token.{Token}
 use Rattle.grammar.specs.Tree.{All, DeletedPart, DeclarationTree, ImportTree, SchemaTree}
 use Rattle.grammar.specs.Meaning.{numberOf, deletedOf, isNameless, nameOf, importOf}
 use Rattle.grammar.specs.Error.{Error, errorOver}
-use Rattle.grammar.specs.Condition.{Distinct, anyOf, Named, keyOf, DeletedOnce, Good, sameImport, sameIndex, importErrors, indexErrors, importsErrors, deletedErrors, declarationsErrors, conditionErrors}
+use Rattle.grammar.specs.Condition.{Distinct, anyOf, Named, keyOf, DeletedOnce, Good, sameImport, sameIndex, importErrors}
+use Rattle.grammar.specs.Condition.{indexErrors, importsErrors, deletedErrors, declarationsErrors, conditionErrors}
 use Rattle.grammar.proofs.Rules.{cons≢nil, both-nil}
 
 -- each of ks differs from those before it and from those of seen
@@ -45,7 +46,8 @@ module _ {K : Type 0} where
   distinct-new ks d = record { apart = λ k m n. List·Memᴰ·not-nil n; distinct = d }
 
 -- a test that compares keys
-module _ {A K : Type 0} (key : A → K) (same : A → A → Bool) (same-key : (x y : A) → same x y ≡ true → key x ≡ key y) (key-same : (x y : A) → key x ≡ key y → same x y ≡ true) where
+module _ {A K : Type 0} (key : A → K) (same : A → A → Bool) (same-key : (x y : A) → same x y ≡ true → key x ≡ key y)
+    (key-same : (x y : A) → key x ≡ key y → same x y ≡ true) where
   pub none-same : (x : A) (ys : List A) → anyOf (same x) ys ≡ false → ¬ (List·Memᴰ (key x) (map key ys))
   none-same x [] h m = List·Memᴰ·not-nil m
   none-same x (y ∷ ys) h m = go (same x y) refl (List·Memᴰ·cases-cons m) (none-same x ys)
@@ -104,7 +106,8 @@ deleted-back (some p) d = indices-back [] (p .indices) (distinct-new (map number
 
 declarations-there : (ds : List DeclarationTree) → declarationsErrors ds ≡ [] → All DeletedOnce ds
 declarations-there [] h = tt
-declarations-there (d ∷ ds) h = let i = both-nil (deletedErrors (d .deleted)) (declarationsErrors ds) h in (deleted-there (d .deleted) (i .0), declarations-there ds (i .1))
+declarations-there (d ∷ ds) h = let i = both-nil (deletedErrors (d .deleted)) (declarationsErrors ds) h in
+    (deleted-there (d .deleted) (i .0), declarations-there ds (i .1))
 
 declarations-back : (ds : List DeclarationTree) → All DeletedOnce ds → declarationsErrors ds ≡ []
 declarations-back [] g = refl

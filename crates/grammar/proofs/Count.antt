@@ -17,7 +17,8 @@ use Rattle.grammar.specs.Tree.{FieldTree, DeletedPart, HeadTree, Declara
 use Rattle.grammar.specs.Error.{Error, errorAt, errorOver, errorBytes, errorsBytes}
 use Rattle.grammar.specs.Meaning.{isNameless, importOf}
 use Rattle.grammar.specs.Condition.{anyOf, sameImport, sameIndex, importErrors, indexErrors}
-use Rattle.grammar.specs.Reading.{Result, ok, fail, is, consume, front, skip, parseField, Reading, isEnd, parseFields, parseDeleted, parseHead, parseRight, parseDeclaration, parseDeclarations, parseImport, parseImports, isOpening, parseOpening, parseSchema}
+use Rattle.grammar.specs.Reading.{Result, ok, fail, is, consume, front, skip, parseField, Reading, isEnd, parseFields, parseDeleted, parseHead}
+use Rattle.grammar.specs.Reading.{parseRight, parseDeclaration, parseDeclarations, parseImport, parseImports, isOpening, parseOpening, parseSchema}
 use Rattle.grammar.proofs.Rules.{front-sound}
 use Rattle.grammar.proofs.Declarations.{head-sound}
 use Rattle.grammar.proofs.Imports.{import-sound}
@@ -67,7 +68,8 @@ deleted-count (t ∷ ts) = go (eqb (t .kind) kDeleted) refl
         rw (e, parseDeleted) (omega (arith, ap length (front-sound kInteger ts .0), run-length f (skip (is kInteger) ts), indices-count [] f))
 
 right-count : (end : ℕ) (h : HeadTree) (fs : Reading (List FieldTree)) (d : Reading (Option DeletedPart)) (m : Result Token) (n : ℕ)
-    → length (fs .errors) ≤ 1 → length (d .errors) + length (left m) ≤ n → length (parseRight end h fs d m .errors) + length (parseRight end h fs d m .rest) ≤ n + 2
+    → length (fs .errors) ≤ 1 → length (d .errors) + length (left m) ≤ n
+    → length (parseRight end h fs d m .errors) + length (parseRight end h fs d m .rest) ≤ n + 2
 right-count end h fs d (ok z r) n a b = omega (arith, length-append (fs .errors) (d .errors))
 right-count end h fs d (fail k r) n a b =
     omega (arith, length-append (fs .errors) (d .errors), length-append (fs .errors ++ d .errors) (errorAt end k r ∷ []))
@@ -85,7 +87,12 @@ declaration-count end t ts = go (parseHead (t ∷ ts)) refl
         let d = parseDeleted (fs .rest) in
         let m = consume 5 (is kRightCurly) (d .rest) in
         let l : length (d .errors) + length (left m) ≤ length r =
-        omega (arith, deleted-count (fs .rest), consume-left 5 (is kRightCurly) (length (d .rest)) (d .rest) (omega arith), fields-left (length r) end (length r) r (omega arith)) in
+        omega (
+          arith,
+          deleted-count (fs .rest),
+          consume-left 5 (is kRightCurly) (length (d .rest)) (d .rest) (omega arith),
+          fields-left (length r) end (length r) r (omega arith),
+        ) in
         rw (p, parseDeclaration)
         (omega (arith, right-count end h fs d m (length r) (fields-count (length r) end r) l, ap length (q .0), head-eats h r))
 

@@ -11,11 +11,15 @@ use lib.ListN.{length}
 use borrow.Author.Tests.{eqb-true, eq-eqb}
 use Rattle.token.specs.Token.{Token}
 use Rattle.token.specs.Kind.{isKeyword, kComment, kDeleted, kIdentifier, kInteger, kLeftCurly, kRightCurly}
-use Rattle.grammar.specs.Tree.{FieldTree, DeletedPart, HeadTree, DeclarationTree, optionally, each, yField, yDeleted, yHead, yDeclaration, Is, Passes, IfAny, All, WfField, WfDeleted, WfHead, WfDeclaration}
+use Rattle.grammar.specs.Tree.{FieldTree, DeletedPart, HeadTree, DeclarationTree, optionally, each, yField, yDeleted}
+use Rattle.grammar.specs.Tree.{yHead, yDeclaration, Is, Passes, IfAny, All, WfField, WfDeleted, WfHead, WfDeclaration}
 use Rattle.grammar.specs.Error.{kindAt}
 use Rattle.grammar.specs.Condition.{deletedErrors, declarationsErrors}
-use Rattle.grammar.specs.Reading.{Result, ok, fail, andThen, is, consume, optional, front, skip, Reading, isEnd, parseFields, parseDeleted, parseKeyword, nameNumber, parseHead, parseRight, parseBody, parseDeclaration, join, parseDeclarations}
-use Rattle.grammar.proofs.Rules.{Read, fail≢ok, cons≢nil, both-nil, along, andThen-ok, not-kind, consume-sound, consume-complete, token-sound, token-complete, optional-token-sound, optional-token-complete, passes-is, is-passes, front-sound, front-complete, read-join}
+use Rattle.grammar.specs.Reading.{Result, ok, fail, andThen, is, consume, optional, front, skip, Reading, isEnd, parseFields, parseDeleted}
+use Rattle.grammar.specs.Reading.{parseKeyword, nameNumber, parseHead, parseRight, parseBody, parseDeclaration, join, parseDeclarations}
+use Rattle.grammar.proofs.Rules.{Read, fail≢ok, cons≢nil, both-nil, along, andThen-ok, not-kind, consume-sound}
+use Rattle.grammar.proofs.Rules.{consume-complete, token-sound, token-complete, optional-token-sound}
+use Rattle.grammar.proofs.Rules.{optional-token-complete, passes-is, is-passes, front-sound, front-complete, read-join}
 use Rattle.grammar.proofs.Fields.{fields-sound, fields-complete}
 use Rattle.grammar.proofs.Eats.{declaration-eats}
 
@@ -70,7 +74,11 @@ head-sound ts h =
 
 head-complete : (h : HeadTree) (r : List Token) → WfHead h → parseHead (yHead h r) ≡ ok h r
 head-complete h r w =
-    rw (optional-token-complete (is kComment) (h .comment) _ (passes-is kComment (h .comment) (w .comment)) (not-kind isKeyword (h .keyword .kind) kComment (w .keyword) refl), parseHead)
+    rw (
+      optional-token-complete (is kComment) (h .comment) _ (passes-is kComment (h .comment) (w .comment))
+          (not-kind isKeyword (h .keyword .kind) kComment (w .keyword) refl),
+      parseHead,
+    )
     (rw (keyword-complete (h .comment) (h .keyword) _ (w .keyword))
     (rw (token-complete (nameNumber (h .keyword)) kIdentifier (h .name) _ (w .name)) (rw (token-complete 4 kLeftCurly (h .left) r (w .left)))))
 
@@ -80,7 +88,8 @@ pub record Declared (ts : List Token) (p : Reading (List DeclarationTree)) : Typ
   pub errors : declarationsErrors (p .value) ≡ []
 
 right-sound : (end : ℕ) (h : HeadTree) (ts : List Token) (fs : Reading (List FieldTree)) (d : Reading (Option DeletedPart)) (m : Result Token)
-    → WfHead h → (fs .errors ≡ [] → Read (each yField) (All WfField) ts (fs .value) (fs .rest)) → Deleted (fs .rest) d → consume 5 (is kRightCurly) (d .rest) ≡ m
+    → WfHead h → (fs .errors ≡ [] → Read (each yField) (All WfField) ts (fs .value) (fs .rest)) → Deleted (fs .rest) d
+    → consume 5 (is kRightCurly) (d .rest) ≡ m
     → parseRight end h fs d m .errors ≡ [] → Declared (yHead h ts) (parseRight end h fs d m)
 right-sound end h ts fs d (fail n r) w a b p e = absurd (cons≢nil (both-nil (fs .errors ++ d .errors) _ e .1))
 right-sound end h ts fs d (ok z r) w a b p e =
@@ -107,7 +116,8 @@ declaration-sound end ts e = go (parseHead ts) refl
         let d = parseDeleted (fs .rest) in
         rw (p, parseDeclaration)
         (rw (q .0)
-        (right-sound end h r fs d (consume 5 (is kRightCurly) (d .rest)) (q .1) (fields-sound (length r) end r) (deleted-sound (fs .rest)) refl (rw (p, parseDeclaration) at e)))
+        (right-sound end h r fs d (consume 5 (is kRightCurly) (d .rest)) (q .1) (fields-sound (length r) end r) (deleted-sound (fs .rest)) refl
+        (rw (p, parseDeclaration) at e)))
 
 pub declaration-complete : (end : ℕ) (d : DeclarationTree) (r : List Token) → WfDeclaration d
     → parseDeclaration end (yDeclaration d r) ≡ record { errors = deletedErrors (d .deleted); value = d ∷ []; rest = r }

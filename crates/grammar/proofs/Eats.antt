@@ -5,7 +5,8 @@ use mathlib.Core.List.{List, [], _∷_}
 use native.Mathlib.Omega.{arith}
 use lib.ListN.{length}
 use Rattle.token.specs.Token.{Token}
-use Rattle.grammar.specs.Tree.{TypeTree, array, plain, single, dotted, TypePart, FieldTree, DeletedPart, HeadTree, DeclarationTree, AliasPart, ImportTree, optionally, each, yType, yTypePart, yField, yDeleted, yHead, yDeclaration, yAlias, yImport}
+use Rattle.grammar.specs.Tree.{TypeTree, array, plain, single, dotted, TypePart, FieldTree, DeletedPart, HeadTree, DeclarationTree, AliasPart}
+use Rattle.grammar.specs.Tree.{ImportTree, optionally, each, yType, yTypePart, yField, yDeleted, yHead, yDeclaration, yAlias, yImport}
 
 module _ {A : Type 0} (y : A → List Token → List Token) (keeps : (x : A) (r : List Token) → length r < length (y x r)) where
   pub optionally-keeps : (o : Option A) (r : List Token) → length r ≤ length (optionally y o r)

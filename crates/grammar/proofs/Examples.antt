@@ -56,15 +56,18 @@ examples =
     ∷ []
 
 examples-hold : map (λ (e : Example). errorsOf (parse (tokensOf (e .text)))) examples ≡ map (λ (e : Example). e .told) examples
-unfolding parse pick leBytes leNumber leAt lowerOf snakeOf nameOrder sameName isBefore lastPart isParent cut stemOf importName paragraphOf afterParagraph paragraphsOf paragraphBytes
+unfolding parse pick leBytes leNumber leAt lowerOf snakeOf nameOrder sameName isBefore lastPart isParent cut stemOf importName paragraphOf afterParagraph
+    paragraphsOf paragraphBytes
 examples-hold = refl
 
 abbrev importNames : Outcome → List Bytes
 importNames (schema s) = map (λ (i : Import). i .name) (s .imports)
 importNames (errors es) = []
 
-in-snake-order : importNames (parse (tokensOf "import 'fooZ' import 'b/op.t' import 'foo_b' import 'fooA'")) ≡ (bytes "fooA" ∷ bytes "foo_b" ∷ bytes "fooZ" ∷ bytes "op" ∷ [])
-unfolding parse pick leBytes leNumber leAt lowerOf snakeOf nameOrder sameName isBefore lastPart isParent cut stemOf importName paragraphOf afterParagraph paragraphsOf paragraphBytes
+in-snake-order : importNames (parse (tokensOf "import 'fooZ' import 'b/op.t' import 'foo_b' import 'fooA'"))
+    ≡ (bytes "fooA" ∷ bytes "foo_b" ∷ bytes "fooZ" ∷ bytes "op" ∷ [])
+unfolding parse pick leBytes leNumber leAt lowerOf snakeOf nameOrder sameName isBefore lastPart isParent cut stemOf importName paragraphOf afterParagraph
+    paragraphsOf paragraphBytes
 in-snake-order = refl
 
 -- the schema's comment, and those of its declarations
@@ -73,9 +76,11 @@ comments (schema s) = s .comment ∷ map (λ (d : Declaration). d .comment) (s .
 comments (errors es) = []
 
 first-comment : comments (parse (tokensOf "# c\nstruct A { }")) ≡ ([] ∷ (bytes "c" ∷ []) ∷ [])
-unfolding parse pick leBytes leNumber leAt lowerOf snakeOf nameOrder sameName isBefore lastPart isParent cut stemOf importName paragraphOf afterParagraph paragraphsOf paragraphBytes
+unfolding parse pick leBytes leNumber leAt lowerOf snakeOf nameOrder sameName isBefore lastPart isParent cut stemOf importName paragraphOf afterParagraph
+    paragraphsOf paragraphBytes
 first-comment = refl
 
 parted-comment : comments (parse (tokensOf "# c\n\nstruct A { }")) ≡ ((bytes "c" ∷ []) ∷ [] ∷ [])
-unfolding parse pick leBytes leNumber leAt lowerOf snakeOf nameOrder sameName isBefore lastPart isParent cut stemOf importName paragraphOf afterParagraph paragraphsOf paragraphBytes
+unfolding parse pick leBytes leNumber leAt lowerOf snakeOf nameOrder sameName isBefore lastPart isParent cut stemOf importName paragraphOf afterParagraph
+    paragraphsOf paragraphBytes
 parted-comment = refl

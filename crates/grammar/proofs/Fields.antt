@@ -13,7 +13,8 @@ use Rattle.token.specs.Kind.{isRule, kColon, kComment, kDeleted, kEquals, kIden
 use Rattle.grammar.specs.Tree.{TypePart, FieldTree, optionally, each, yType, yTypePart, yField, Is, Passes, IfAny, All, WfType, WfTypePart, WfField}
 use Rattle.grammar.specs.Error.{kindAt}
 use Rattle.grammar.specs.Reading.{Result, ok, fail, andThen, is, consume, optional, parseType, parseTypePart, parseField, Reading, isEnd, parseFields}
-use Rattle.grammar.proofs.Rules.{Read, fail≢ok, cons≢nil, along, andThen-ok, not-kind, token-sound, token-complete, optional-sound, optional-none, optional-some, optional-token-sound, optional-token-complete, passes-is, is-passes}
+use Rattle.grammar.proofs.Rules.{Read, fail≢ok, cons≢nil, along, andThen-ok, not-kind, token-sound, token-complete, optional-sound}
+use Rattle.grammar.proofs.Rules.{optional-none, optional-some, optional-token-sound, optional-token-complete, passes-is, is-passes}
 use Rattle.grammar.proofs.Types.{type-sound, type-complete}
 use Rattle.grammar.proofs.Eats.{field-eats}
 
@@ -58,7 +59,11 @@ not-comment (some t) n r w h = not-kind isRule (t .kind) kComment w refl
 pub field-complete : (f : FieldTree) (r : List Token) → WfField f → parseField (yField f r) ≡ ok f r
 field-complete f r w =
     let after : isRule (f .name .kind) ≡ false = rw (w .name) in
-    rw (optional-token-complete (is kComment) (f .comment) _ (passes-is kComment (f .comment) (w .comment)) (not-comment (f .rule) (f .name) _ (w .rule) (w .name)), parseField)
+    rw (
+      optional-token-complete (is kComment) (f .comment) _ (passes-is kComment (f .comment) (w .comment))
+          (not-comment (f .rule) (f .name) _ (w .rule) (w .name)),
+      parseField,
+    )
     (rw (optional-token-complete isRule (f .rule) _ (w .rule) after)
     (rw (token-complete 8 kIdentifier (f .name) _ (w .name))
     (rw (part-complete (f .type) (f .equals) _ (w .type) (w .equals))
@@ -71,7 +76,8 @@ fields-sound zero end ts h = (refl, tt)
 fields-sound (suc k) end ts h = go (isEnd ts) (parseField ts) refl refl (fields-sound k end)
   where
     go : (b : Bool) (m : Result FieldTree) → isEnd ts ≡ b → parseField ts ≡ m
-        → ((us : List Token) → parseFields k end us .errors ≡ [] → Read (each yField) (All WfField) us (parseFields k end us .value) (parseFields k end us .rest))
+        → ((us : List Token) → parseFields k end us .errors ≡ []
+        → Read (each yField) (All WfField) us (parseFields k end us .value) (parseFields k end us .rest))
         → Read (each yField) (All WfField) ts (parseFields (suc k) end ts .value) (parseFields (suc k) end ts .rest)
     go true m e p ih = rw (e, parseFields) (refl, tt)
     go false (fail n r) e p ih = absurd (cons≢nil (rw (e, p, parseFields) at h))

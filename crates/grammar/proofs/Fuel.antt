@@ -12,7 +12,8 @@ use Rattle.token.specs.Kind.{kImport, kRightCurly}
 use Rattle.grammar.specs.Tree.{FieldTree, DeclarationTree, ImportTree}
 use Rattle.grammar.specs.Error.{Error, errorAt}
 use Rattle.grammar.specs.Condition.{importErrors}
-use Rattle.grammar.specs.Reading.{Result, ok, fail, is, skip, parseField, Reading, nothing, join, isEnd, parseFields, parseDeclaration, parseDeclarations, parseImport, parseImports, parseOpening, parseEnd, parseSchema}
+use Rattle.grammar.specs.Reading.{Result, ok, fail, is, skip, parseField, Reading, nothing, join, isEnd, parseFields}
+use Rattle.grammar.specs.Reading.{parseDeclaration, parseDeclarations, parseImport, parseImports, parseOpening, parseEnd, parseSchema}
 use Rattle.grammar.proofs.Fields.{field-sound}
 use Rattle.grammar.proofs.Eats.{field-eats}
 use Rattle.grammar.proofs.Left.{left, import-left, declaration-left}
@@ -68,7 +69,8 @@ declarations-fuel (suc k) (suc m) end (t ∷ ts) l n =
     ap (join d) (declarations-fuel k m end (d .rest) (omega arith) (omega arith))
 
 pub declarations-next : (end : ℕ) (t : Token) (ts : List Token)
-    → parseDeclarations (suc (length ts)) end (t ∷ ts) ≡ join (parseDeclaration end (t ∷ ts)) (parseDeclarations (length (parseDeclaration end (t ∷ ts) .rest)) end (parseDeclaration end (t ∷ ts) .rest))
+    → parseDeclarations (suc (length ts)) end (t ∷ ts) ≡ join (parseDeclaration end (t ∷ ts))
+    (parseDeclarations (length (parseDeclaration end (t ∷ ts) .rest)) end (parseDeclaration end (t ∷ ts) .rest))
 declarations-next end t ts =
     let d = parseDeclaration end (t ∷ ts) in
     let s = declaration-left end t ts in
@@ -89,7 +91,8 @@ imports-fuel zero (suc m) end before (t ∷ ts) l n = absurd (omega arith)
 imports-fuel (suc k) zero end before [] l n = refl
 imports-fuel (suc k) zero end before (t ∷ ts) l n = absurd (omega arith)
 imports-fuel (suc k) (suc m) end before [] l n = refl
-imports-fuel (suc k) (suc m) end before (t ∷ ts) l n = go (eqb (t .kind) kImport) (parseImport t ts) refl refl (import-left t (length ts) ts (omega arith)) (imports-fuel k m end)
+imports-fuel (suc k) (suc m) end before (t ∷ ts) l n =
+    go (eqb (t .kind) kImport) (parseImport t ts) refl refl (import-left t (length ts) ts (omega arith)) (imports-fuel k m end)
   where
     go : (b : Bool) (x : Result ImportTree) → eqb (t .kind) kImport ≡ b → parseImport t ts ≡ x → length (left (parseImport t ts)) ≤ length ts
         → ((bs : List ImportTree) (us : List Token) → length us ≤ k → length us ≤ m → parseImports k end bs us ≡ parseImports m end bs us)

@@ -14,7 +14,8 @@ use Rattle.grammar.specs.Tree.{AliasPart, ImportTree, optionally, each, 
 use Rattle.grammar.specs.Error.{kindAt}
 use Rattle.grammar.specs.Condition.{importErrors, importsErrors}
 use Rattle.grammar.specs.Reading.{Result, ok, fail, andThen, is, consume, optional, Reading, join, parseAlias, parseImport, parseImports}
-use Rattle.grammar.proofs.Rules.{Read, fail≢ok, cons≢nil, both-nil, along, andThen-ok, token-sound, token-complete, optional-sound, optional-none, optional-some}
+use Rattle.grammar.proofs.Rules.{Read, fail≢ok, cons≢nil, both-nil, along, andThen-ok, token-sound}
+use Rattle.grammar.proofs.Rules.{token-complete, optional-sound, optional-none, optional-some}
 use Rattle.grammar.proofs.Eats.{import-eats}
 
 alias-sound : (ts : List Token) {o : Option AliasPart} {r : List Token} → optional (is kAs) parseAlias ts ≡ ok o r

@@ -9,9 +9,12 @@ use lib.Dec.{eqb}
 use lib.ListN.{length}
 use Rattle.wire.specs.Pick.{pick}
 use Rattle.token.specs.Token.{Token}
-use Rattle.token.specs.Kind.{isPlain, isRule, kAs, kColon, kComment, kDeleted, kDot, kEquals, kIdentifier, kInteger, kLeftSquare, kPath, kRightCurly, kRightSquare}
+use Rattle.token.specs.Kind.{isPlain, isRule, kAs, kColon, kComment, kDeleted, kDot, kEquals}
+use Rattle.token.specs.Kind.{kIdentifier, kInteger, kLeftSquare, kPath, kRightCurly, kRightSquare}
 use Rattle.grammar.specs.Tree.{TypeTree, FieldTree, DeletedPart, HeadTree, DeclarationTree, ImportTree}
-use Rattle.grammar.specs.Reading.{Result, ok, fail, andThen, is, consume, optional, skip, isDotted, parseDotted, parseSingle, parseType, parseTypePart, parseField, Reading, isEnd, parseFields, parseDeleted, parseHead, parseRight, parseBody, parseDeclaration, parseAlias, parseImport}
+use Rattle.grammar.specs.Reading.{Result, ok, fail, andThen, is, consume, optional, skip, isDotted, parseDotted, parseSingle}
+use Rattle.grammar.specs.Reading.{parseType, parseTypePart, parseField, Reading, isEnd, parseFields, parseDeleted, parseHead}
+use Rattle.grammar.specs.Reading.{parseRight, parseBody, parseDeclaration, parseAlias, parseImport}
 use Rattle.grammar.proofs.Declarations.{head-sound}
 use Rattle.grammar.proofs.Eats.{head-eats}
 
@@ -68,7 +71,8 @@ type-left n (t ∷ ts) l = go (eqb (t .kind) kLeftSquare) (isPlain (t .kind)) (i
         → length (left (parseType (t ∷ ts))) ≤ n
     go true b c e f g ih =
         rw (e, parseType)
-        (andThen-left (parseType ts) _ n ih λ y ts₁ l₁. andThen-left (consume 11 (is kRightSquare) ts₁) _ n (consume-left 11 (is kRightSquare) n ts₁ l₁) λ x r m. m)
+        (andThen-left (parseType ts) _ n ih λ y ts₁ l₁. andThen-left (consume 11 (is kRightSquare) ts₁) _ n (consume-left 11 (is kRightSquare) n ts₁ l₁)
+        λ x r m. m)
     go false true c e f g ih = rw (e, f, parseType) (omega arith)
     go false false true e f g ih = rw (e, f, g, parseType) (dotted-left n (t ∷ ts) l)
     go false false false e f g ih = rw (e, f, g, parseType) (single-left n (t ∷ ts) l)

@@ -11,7 +11,8 @@ use Rattle.wire.specs.Bytes.{Bytes}
 use Rattle.wire.specs.Pick.{pick}
 use Rattle.wire.proofs.Numbers.{AllBytes}
 use Rattle.token.specs.Token.{Token, endOf}
-use Rattle.token.specs.Kind.{isPlain, isRule, isKeyword, kAs, kColon, kComment, kDeleted, kDot, kEquals, kIdentifier, kImport, kInteger, kLeftCurly, kLeftSquare, kPath, kRightCurly, kRightSquare, kStruct}
+use Rattle.token.specs.Kind.{isPlain, isRule, isKeyword, kAs, kColon, kComment, kDeleted, kDot, kEquals, kIdentifier}
+use Rattle.token.specs.Kind.{kImport, kInteger, kLeftCurly, kLeftSquare, kPath, kRightCurly, kRightSquare, kStruct}
 use Rattle.token.specs.Table.{tokens, decode}
 use Rattle.token.proofs.Encode.{decode-holds}
 use Rattle.grammar.specs.Tree.{FieldTree, DeletedPart, HeadTree, AliasPart, ImportTree, IfAny, All}
@@ -19,7 +20,9 @@ use Rattle.grammar.specs.Place.{span}
 use Rattle.grammar.specs.Error.{Error, kindAt, foundAt, errorAt, errorOver, Narrow}
 use Rattle.grammar.specs.Meaning.{lastOf, isNameless}
 use Rattle.grammar.specs.Condition.{anyOf, sameImport, sameIndex, importErrors, indexErrors}
-use Rattle.grammar.specs.Reading.{Result, ok, fail, andThen, is, consume, optional, front, skip, isDotted, parseDotted, parseSingle, parseType, parseTypePart, parseField, Reading, isEnd, parseFields, parseDeleted, parseKeyword, nameNumber, parseHead, parseRight, parseDeclaration, parseDeclarations, parseAlias, parseImport, parseImports, isOpening, parseOpening, parseSchema}
+use Rattle.grammar.specs.Reading.{Result, ok, fail, andThen, is, consume, optional, front, skip, isDotted, parseDotted, parseSingle, parseType}
+use Rattle.grammar.specs.Reading.{parseTypePart, parseField, Reading, isEnd, parseFields, parseDeleted, parseKeyword, nameNumber, parseHead, parseRight}
+use Rattle.grammar.specs.Reading.{parseDeclaration, parseDeclarations, parseAlias, parseImport, parseImports, isOpening, parseOpening, parseSchema}
 use Rattle.grammar.proofs.Rules.{all-append}
 use Rattle.grammar.proofs.Schemas.{end-same}
 use Rattle.grammar.proofs.Fuel.{declarations-rest}
@@ -247,7 +250,8 @@ module _ {end : ℕ} {P : Error → Type 0} (told : Told end P) where
           let q = ih (i ∷ before) r s in
           let es = all-append P (importErrors before i) (parseImports k end (i ∷ before) r .errors) (import-told before i v) (q .errors) in
           rw (e, p, parseImports) (record { errors = es; rest = q .rest })
-      go true (fail n r) e p (failed l s) ih = let q = ih before r s in rw (e, p, parseImports) (record { errors = (told .at n r l s, q .errors); rest = q .rest })
+      go true (fail n r) e p (failed l s) ih = let q = ih before r s in
+          rw (e, p, parseImports) (record { errors = (told .at n r l s, q .errors); rest = q .rest })
 
 opening-sane : (ts : List Token) → All Sane ts → All Sane (parseOpening ts .rest)
 opening-sane [] h = tt

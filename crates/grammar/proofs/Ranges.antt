@@ -5,7 +5,8 @@ use mathlib.Core.Option.{Option, none, some}
 use mathlib.Core.List.{List, [], _∷_}
 use Rattle.token.specs.Token.{Token, endOf}
 use Rattle.schema.specs.Ast.{Range, TypeVariant}
-use Rattle.grammar.specs.Tree.{TypeTree, array, plain, single, dotted, TypePart, FieldTree, DeletedPart, DeclarationTree, AliasPart, ImportTree, optionally, each, yType, yTypePart, yField, yDeleted, yDeclaration, yAlias, yImport}
+use Rattle.grammar.specs.Tree.{TypeTree, array, plain, single, dotted, TypePart, FieldTree, DeletedPart, DeclarationTree, AliasPart}
+use Rattle.grammar.specs.Tree.{ImportTree, optionally, each, yType, yTypePart, yField, yDeleted, yDeclaration, yAlias, yImport}
 use Rattle.grammar.specs.Place.{span, firstOf}
 use Rattle.grammar.specs.Meaning.{typeOf, fieldOf, declarationOf, lastOf, importOf}
 
@@ -86,7 +87,8 @@ pub declaration-range : (d : DeclarationTree) → declarationOf d .range ≡ who
 declaration-range d =
     let (c, p) = optionally-ends _∷_ token-ends (d .head .comment) 0 in
     let (e, q) = each-ends yField field-ends (d .fields) (d .head .left .end) in
-    range _ _ _ _ (first-start (d .head .comment) (d .head .keyword) _) (sym (p _ ∙ q _ ∙ optionally-ends yDeleted deleted-ends (d .deleted) e .1 (d .right ∷ [])))
+    range _ _ _ _ (first-start (d .head .comment) (d .head .keyword) _)
+    (sym (p _ ∙ q _ ∙ optionally-ends yDeleted deleted-ends (d .deleted) e .1 (d .right ∷ [])))
 
 pub import-range : (i : ImportTree) → importOf i .range ≡ whole (yImport i [])
 import-range i = go (i .alias)

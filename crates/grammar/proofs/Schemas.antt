@@ -8,7 +8,8 @@ use native.Mathlib.Omega.{arith}
 use lib.ListN.{length}
 use Rattle.token.specs.Token.{Token, endOf}
 use Rattle.token.specs.Kind.{isKeyword, kAs, kComment, kImport}
-use Rattle.grammar.specs.Tree.{DeclarationTree, SchemaTree, optionally, each, yImport, yDeclaration, yBody, yield, Is, IfAny, All, WfHead, WfDeclaration, WfOpening, Wf}
+use Rattle.grammar.specs.Tree.{DeclarationTree, SchemaTree, optionally, each, yImport, yDeclaration}
+use Rattle.grammar.specs.Tree.{yBody, yield, Is, IfAny, All, WfHead, WfDeclaration, WfOpening, Wf}
 use Rattle.grammar.specs.Error.{Error, kindAt}
 use Rattle.grammar.specs.Condition.{conditionErrors, Good}
 use Rattle.grammar.specs.Derivation.{Derives}

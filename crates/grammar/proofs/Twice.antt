@@ -24,10 +24,13 @@ use Rattle.token.proofs.Walk.{opened, decode-small}
 use Rattle.token.proofs.Encode.{head-length}
 use Rattle.schema.specs.Ast.{Import, Field, Schema}
 use Rattle.schema.specs.Kind.{sComment, sImport, sField, sDeleted, sArray, sPlain, sCustom}
-use Rattle.schema.specs.Encode.{sized, counted, encodeComment, importPayload, encodeImports, importPart, encodeType, fieldPayload, encodeFields, indices, encodeDeleted, declarationKind, declarationPayload, encodeDeclarations, encodeSchema}
-use Rattle.grammar.specs.Tree.{TypeTree, array, plain, single, dotted, TypePart, FieldTree, DeletedPart, DeclarationTree, AliasPart, ImportTree, SchemaTree, optionally, each, yType, yTypePart, yField, yDeleted, yDeclaration, yAlias, yImport, yBody, yield}
+use Rattle.schema.specs.Encode.{sized, counted, encodeComment, importPayload, encodeImports, importPart, encodeType, fieldPayload}
+use Rattle.schema.specs.Encode.{encodeFields, indices, encodeDeleted, declarationKind, declarationPayload, encodeDeclarations, encodeSchema}
+use Rattle.grammar.specs.Tree.{TypeTree, array, plain, single, dotted, TypePart, FieldTree, DeletedPart, DeclarationTree, AliasPart, ImportTree}
+use Rattle.grammar.specs.Tree.{SchemaTree, optionally, each, yType, yTypePart, yField, yDeleted, yDeclaration, yAlias, yImport, yBody, yield}
 use Rattle.grammar.specs.Sort.{insert, sortBy}
-use Rattle.grammar.specs.Meaning.{commentOf, typeOf, typePartOf, numberOf, fieldOf, deletedOf, declarationOf, aliasOf, replacement, isNameless, nameOf, importOf, comesBefore, schemaOf}
+use Rattle.grammar.specs.Meaning.{commentOf, typeOf, typePartOf, numberOf, fieldOf, deletedOf, declarationOf}
+use Rattle.grammar.specs.Meaning.{aliasOf, replacement, isNameless, nameOf, importOf, comesBefore, schemaOf}
 use Rattle.grammar.specs.Reading.{schema, parse, parseSchema}
 use Rattle.grammar.proofs.Outcomes.{parse-schema}
 use Rattle.grammar.proofs.Demand3.{sound}
@@ -59,7 +62,15 @@ sized-from (suc n) at last row (b ∷ bs) ts e =
     let x = b ∷ bs in
     let o = opened (suc n) at last row x ts (omega arith) e in
     let i = sized-from n _ _ _ (drop (sizeOf x) x) (o .rest) (rw sub-one at (o .next)) in
-    rw (o .whole) (omega (arith, size-one (tokenOf x) (o .rest), payload-length x (o .good .fits .head) (o .good .fits .tail), i, length-drop (sizeOf x) x, o .good .fits .head, o .good .fits .tail))
+    rw (o .whole) (omega (
+      arith,
+      size-one (tokenOf x) (o .rest),
+      payload-length x (o .good .fits .head) (o .good .fits .tail),
+      i,
+      length-drop (sizeOf x) x,
+      o .good .fits .head,
+      o .good .fits .tail,
+    ))
   where
     payload-length : (x : Bytes) → 12 ≤ sizeOf x → sizeOf x ≤ length x → length (tokenOf x .payload) ≡ sizeOf x - 12
     payload-length x h k = unfold tokenOf in length-take-le (sizeOf x - 12) (drop 12 x) (omega (arith, length-drop 12 x))
@@ -141,7 +152,8 @@ type-twice (single n) r = omega (arith, custom-length (n .start) (n .end) none (
 type-twice (dotted i d n) r =
     omega (arith, custom-length (i .start) (n .end) (some (i .payload)) (n .payload), size-one i (d ∷ n ∷ r), size-one d (n ∷ r), size-one n r)
 
-part-twice : (o : Option TypePart) (next : Token) (r : List Token) → length (encodeType (typePartOf o next)) + 2 * size r ≤ 14 + 2 * size (optionally yTypePart o r)
+part-twice : (o : Option TypePart) (next : Token) (r : List Token)
+    → length (encodeType (typePartOf o next)) + 2 * size r ≤ 14 + 2 * size (optionally yTypePart o r)
 part-twice none next r = omega (arith, plain-length (next .start) (next .start) kUnit)
 part-twice (some p) next r = omega (arith, type-twice (p .type) r, size-one (p .colon) (yType (p .type) r))
 
@@ -206,7 +218,8 @@ deleted-twice (some p) r =
     )
 
 -- Declarations.
-declarations-twice : (ds : List DeclarationTree) (r : List Token) → length (encodeDeclarations (map declarationOf ds)) + 2 * size r ≤ 2 * size (each yDeclaration ds r)
+declarations-twice : (ds : List DeclarationTree) (r : List Token)
+    → length (encodeDeclarations (map declarationOf ds)) + 2 * size r ≤ 2 * size (each yDeclaration ds r)
 declarations-twice [] r = omega arith
 declarations-twice (d ∷ ds) r =
     let c = declarationOf d in
@@ -268,7 +281,8 @@ name-length : (i : ImportTree) → length (nameOf i) ≤ 3 + length (i .path .pa
 unfolding importName pick
 name-length i = go (isNameless i) (eqb (length (aliasOf (i .alias))) 0)
   where
-    go : (b c : Bool) → length (pick b replacement (pick c (stemOf (i .path .payload)) (aliasOf (i .alias)))) ≤ 3 + length (i .path .payload) + length (aliasOf (i .alias))
+    go : (b c : Bool) → length (pick b replacement (pick c (stemOf (i .path .payload)) (aliasOf (i .alias))))
+        ≤ 3 + length (i .path .payload) + length (aliasOf (i .alias))
     go true c = omega arith
     go false true = omega (arith, stem-short (i .path .payload))
     go false false = omega arith

@@ -24,10 +24,13 @@ use Rattle.schema.specs.Encode.{encodeSchema}
 use Rattle.schema.specs.Decode.{decodeSchema}
 use Rattle.schema.specs.Limits.{Each, RangeWithin, CommentWithin, ImportWithin, TypeWithin, nesting, FieldWithin, DeclarationWithin, Within}
 use Rattle.schema.proofs.RoundTrip.{decode-encode}
-use Rattle.grammar.specs.Tree.{TypeTree, array, plain, single, dotted, TypePart, FieldTree, DeletedPart, DeclarationTree, AliasPart, ImportTree, SchemaTree, optionally, each, yType, yTypePart, yField, yDeleted, yDeclaration, yAlias, yImport, yBody, yield, Is, Passes, IfAny, All, WfType, WfTypePart, WfField, WfDeleted, WfDeclaration, WfAlias, WfImport, WfOpening, Wf}
+use Rattle.grammar.specs.Tree.{TypeTree, array, plain, single, dotted, TypePart, FieldTree, DeletedPart, DeclarationTree, AliasPart, ImportTree}
+use Rattle.grammar.specs.Tree.{SchemaTree, optionally, each, yType, yTypePart, yField, yDeleted, yDeclaration, yAlias, yImport, yBody, yield, Is}
+use Rattle.grammar.specs.Tree.{Passes, IfAny, All, WfType, WfTypePart, WfField, WfDeleted, WfDeclaration, WfAlias, WfImport, WfOpening, Wf}
 use Rattle.grammar.specs.Place.{span, firstOf}
 use Rattle.grammar.specs.Sort.{sortBy}
-use Rattle.grammar.specs.Meaning.{commentOf, typeOf, typePartOf, numberOf, fieldOf, deletedOf, declarationOf, aliasOf, foundName, lastOf, importOf, comesBefore, schemaOf}
+use Rattle.grammar.specs.Meaning.{commentOf, typeOf, typePartOf, numberOf, fieldOf, deletedOf, declarationOf}
+use Rattle.grammar.specs.Meaning.{aliasOf, foundName, lastOf, importOf, comesBefore, schemaOf}
 use Rattle.grammar.specs.Condition.{Named, DeletedOnce}
 use Rattle.grammar.specs.Derivation.{Derives}
 use Rattle.grammar.specs.Reading.{schema, parse}
@@ -190,7 +193,11 @@ declaration-good d r (w, o) h =
         comment = comments-within (d .head .comment) (c .0);
         name = identifier-name (n .0 .1) (n .0 .0);
         fields = mapped FieldWithin fieldOf (d .fields) (fs .0);
-        deleted = record { each = sort-each ltb Small ns (q .0); ascending = chain ltb (sortBy ltb ns) (indices-ascend ns o); few = omega (arith, sort-length ltb ns, q .1) };
+        deleted = record {
+          each = sort-each ltb Small ns (q .0);
+          ascending = chain ltb (sortBy ltb ns) (indices-ascend ns o);
+          few = omega (arith, sort-length ltb ns, q .1);
+        };
       },
       z .1,
     )
@@ -255,7 +262,8 @@ tree-within ts tree d h₀ =
     let h : Held (yield tree) = rw (d .tokens) h₀ in
     let c = optionally-gives (token-gives (Is kComment)) .of (tree .comment) (yBody tree) (opening-comment (tree .comment) (yBody tree) (d .wf .opening)) h in
     let i = each-gives import-gives .of (tree .imports) _ (both WfImport Named (tree .imports) (d .wf .imports) (d .good .named)) (c .1) in
-    let e = each-gives declaration-gives .of (tree .declarations) [] (both WfDeclaration DeletedOnce (tree .declarations) (d .wf .declarations) (d .good .once)) (i .1) in
+    let e = each-gives declaration-gives .of (tree .declarations) []
+    (both WfDeclaration DeletedOnce (tree .declarations) (d .wf .declarations) (d .good .once)) (i .1) in
     record {
       comment = comments-within (tree .comment) (c .0);
       imports = sort-each comesBefore ImportWithin (map importOf (tree .imports)) (mapped ImportWithin importOf (tree .imports) (i .0));

@@ -14,7 +14,8 @@ use Rattle.token.specs.Token.{Token}
 use Rattle.token.specs.Kind.{kAsymmetric, kStruct, kUnit}
 use Rattle.token.specs.Payload.{paragraphsOf}
 use Rattle.schema.specs.Ast.{TypeVariant, Rule, Field, Import, DeclarationVariant, Declaration, Schema}
-use Rattle.grammar.specs.Tree.{TypeTree, array, plain, single, dotted, TypePart, FieldTree, DeletedPart, HeadTree, DeclarationTree, AliasPart, ImportTree, SchemaTree}
+use Rattle.grammar.specs.Tree.{TypeTree, array, plain, single, dotted, TypePart, FieldTree, DeletedPart}
+use Rattle.grammar.specs.Tree.{HeadTree, DeclarationTree, AliasPart, ImportTree, SchemaTree}
 use Rattle.grammar.specs.Place.{span, emptyAt, firstOf}
 use Rattle.grammar.specs.Sort.{sortBy}
 

@@ -9,7 +9,8 @@ use lib.ListN.{length}
 use Rattle.wire.specs.Bytes.{Bytes, bytes}
 use Rattle.wire.specs.Le.{leBytes}
 use Rattle.identifier.specs.Byte.{isLetter, isDigit, isBreak}
-use Rattle.token.specs.Kind.{kAs, kAsymmetric, kBool, kBytes, kChoice, kColon, kComment, kDeleted, kDot, kEquals, kF64, kIdentifier, kImport, kInteger, kLeftCurly, kLeftSquare, kOptional, kPath, kRightCurly, kRightSquare, kS64, kString, kStruct, kU64, kUnit}
+use Rattle.token.specs.Kind.{kAs, kAsymmetric, kBool, kBytes, kChoice, kColon, kComment, kDeleted, kDot, kEquals, kF64, kIdentifier, kImport}
+use Rattle.token.specs.Kind.{kInteger, kLeftCurly, kLeftSquare, kOptional, kPath, kRightCurly, kRightSquare, kS64, kString, kStruct, kU64, kUnit}
 use Rattle.token.specs.Token.{Token}
 use Rattle.token.specs.Payload.{paragraphBytes}
 

@@ -7,9 +7,11 @@ use lib.Dec.{eqb, ltb}
 use lib.ListN.{length}
 use Rattle.wire.specs.Pick.{pick}
 use Rattle.token.specs.Token.{Token, endOf}
-use Rattle.token.specs.Kind.{isPlain, isRule, isKeyword, kAs, kColon, kComment, kDeleted, kDot, kEquals, kIdentifier, kImport, kInteger, kLeftCurly, kLeftSquare, kPath, kRightCurly, kRightSquare, kStruct}
+use Rattle.token.specs.Kind.{isPlain, isRule, isKeyword, kAs, kColon, kComment, kDeleted, kDot, kEquals, kIdentifier}
+use Rattle.token.specs.Kind.{kImport, kInteger, kLeftCurly, kLeftSquare, kPath, kRightCurly, kRightSquare, kStruct}
 use Rattle.schema.specs.Ast.{Schema}
-use Rattle.grammar.specs.Tree.{TypeTree, array, plain, single, dotted, TypePart, FieldTree, DeletedPart, HeadTree, DeclarationTree, AliasPart, ImportTree, SchemaTree}
+use Rattle.grammar.specs.Tree.{TypeTree, array, plain, single, dotted, TypePart, FieldTree, DeletedPart}
+use Rattle.grammar.specs.Tree.{HeadTree, DeclarationTree, AliasPart, ImportTree, SchemaTree}
 use Rattle.grammar.specs.Error.{Error, errorAt, kindAt}
 use Rattle.grammar.specs.Condition.{importErrors, indexErrors}
 use Rattle.grammar.specs.Meaning.{schemaOf}

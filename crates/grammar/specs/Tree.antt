@@ -6,7 +6,8 @@ use mathlib.Core.Bool.{Bool, true}
 use mathlib.Core.Option.{Option, none, some}
 use mathlib.Core.List.{List, [], _∷_}
 use Rattle.token.specs.Token.{Token}
-use Rattle.token.specs.Kind.{isPlain, isRule, isKeyword, kAs, kColon, kComment, kDeleted, kDot, kEquals, kIdentifier, kImport, kInteger, kLeftCurly, kLeftSquare, kPath, kRightCurly, kRightSquare}
+use Rattle.token.specs.Kind.{isPlain, isRule, isKeyword, kAs, kColon, kComment, kDeleted, kDot, kEquals, kIdentifier}
+use Rattle.token.specs.Kind.{kImport, kInteger, kLeftCurly, kLeftSquare, kPath, kRightCurly, kRightSquare}
 
 -- Type: `[` type `]`, a plain type, Identifier, or Identifier `.` Identifier
 pub data TypeTree : Type 0 where

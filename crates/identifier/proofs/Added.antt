@@ -53,7 +53,8 @@ lead (suc (suc s)) = 95 ∷ []
 pub added-itself : (state b : ℕ) → isPlain b ≡ true → added false true state b ≡ lead state ++ (b ∷ [])
 added-itself zero b e = let p = plain-is b e in added-first false true 0 b (p .0) refl ∙ rw (lower-plain b (p .1))
 added-itself (suc zero) b e = let p = plain-is b e in added-plain false true 1 b (p .0) refl (p .1) ∙ rw (lower-plain b (p .1))
-added-itself (suc (suc s)) b e = let p = plain-is b e in added-later false true (suc (suc s)) b (p .0) (λ z. omega arith) (λ z. omega arith) ∙ rw (lower-plain b (p .1))
+added-itself (suc (suc s)) b e = let p = plain-is b e in
+    added-later false true (suc (suc s)) b (p .0) (λ z. omega arith) (λ z. omega arith) ∙ rw (lower-plain b (p .1))
 
 after-word : (state b : ℕ) → isBreak b ≡ false → stateAfter state b ≡ 1
 unfolding stateAfter pick
@@ -79,7 +80,8 @@ pub left-added : (up bar : Bool) (state b : ℕ) (bs : Bytes) → state ≤ 2
     → leftOf (firstBy up) (laterBy bar) state (b ∷ bs) ≡ added up bar state b ++ leftOf (firstBy up) (laterBy bar) (stateAfter state b) bs
 left-added up bar state b bs h = go (isBreak b) refl
   where
-    go : (k : Bool) → isBreak b ≡ k → leftOf (firstBy up) (laterBy bar) state (b ∷ bs) ≡ added up bar state b ++ leftOf (firstBy up) (laterBy bar) (stateAfter state b) bs
+    go : (k : Bool) → isBreak b ≡ k
+        → leftOf (firstBy up) (laterBy bar) state (b ∷ bs) ≡ added up bar state b ++ leftOf (firstBy up) (laterBy bar) (stateAfter state b) bs
     go true e = rw (added-break up bar state b e, after-space state b e) (left-break (firstBy up) (laterBy bar) state b bs e)
     go false e = rw (after-word state b e) (word-added up bar state b bs e h)
 
@@ -115,7 +117,8 @@ module _ (up bar : Bool) (state b : ℕ) {o : Bytes} {at : ℕ} {k : Bool} (e : 
     pub adds-capital : state ≡ 1 → {u : Bool} → u ≡ isUpper b → u ≡ true → Wrote o at (laterBy bar b) o′ r → Wrote o at (added up bar state b) o′ r
     adds-capital s p t w = rw (added-capital up bar state b (sym e ∙ f) s (sym p ∙ t)) w
 
-    pub adds-plain : state ≡ 1 → {u : Bool} → u ≡ isUpper b → u ≡ false → {x : ℕ} → x ≡ lowerOf b → Wrote o at (x ∷ []) o′ r → Wrote o at (added up bar state b) o′ r
+    pub adds-plain : state ≡ 1 → {u : Bool} → u ≡ isUpper b → u ≡ false → {x : ℕ} → x ≡ lowerOf b → Wrote o at (x ∷ []) o′ r
+        → Wrote o at (added up bar state b) o′ r
     adds-plain s p t q w = rw (added-plain up bar state b (sym e ∙ f) s (sym p ∙ t), ← q) w
 
     pub adds-first : state ≡ 0 → Wrote o at (firstBy up b) o′ r → Wrote o at (added up bar state b) o′ r
@@ -142,7 +145,8 @@ pub putting-begin : {up bar : Bool} {name o : Bytes} {a : ℕ} → Putting up ba
 putting-begin = record { left = rest-all; size = refl; small = omega arith }
 
 module _ {up bar : Bool} {name o₀ : Bytes} {a₀ : ℕ} {o : Bytes} {a i state : ℕ} (g : Putting up bar name o₀ a₀ o a i state) where
-  pub putting-more : {o′ : Bytes} {a′ s : ℕ} → i < length name → Wrote o a (added up bar state (getD name i 0)) o′ a′ → s ≡ stateAfter state (getD name i 0) → Putting up bar name o₀ a₀ o′ a′ (i + 1) s
+  pub putting-more : {o′ : Bytes} {a′ s : ℕ} → i < length name → Wrote o a (added up bar state (getD name i 0)) o′ a′ → s ≡ stateAfter state (getD name i 0)
+      → Putting up bar name o₀ a₀ o′ a′ (i + 1) s
   putting-more h w e =
       record {
         left = rest-step w (g .left) (rw (e, add-one, drop-cons name i 0 h) (left-added up bar state (getD name i 0) (drop (suc i) name) (g .small)));

@@ -14,7 +14,8 @@ use Rattle.identifier.specs.declared.Next.{Next}
 use Rattle.identifier.proofs.Left.{ends, begins}
 use Rattle.identifier.proofs.Length.{form-short}
 
-put : (out : Bytes) (v : ℕ) → length out < 256 → set (out ++ replicate (256 - length out) 0) (length out) v ≡ (out ++ (v ∷ [])) ++ replicate (256 - length (out ++ (v ∷ []))) 0
+put : (out : Bytes) (v : ℕ) → length out < 256
+    → set (out ++ replicate (256 - length out) 0) (length out) v ≡ (out ++ (v ∷ [])) ++ replicate (256 - length (out ++ (v ∷ []))) 0
 put out v h =
     let e : 256 - length out ≡ suc (255 - length out) = omega arith in
     let f : 256 - length (out ++ (v ∷ [])) ≡ 255 - length out = rw length-append (omega arith) in
@@ -30,7 +31,8 @@ pub record Filled (up bar : Bool) (name bytes : Bytes) (len at state : ℕ) : Ty
 pub empty : (up bar : Bool) (name : Bytes) → Filled up bar name (replicate 256 0) 0 0 0
 empty up bar name = record { out = []; size = refl; small = omega arith; held = refl; left = refl }
 
-module _ {up bar : Bool} {name bytes : Bytes} {len at state : ℕ} (short : length name ≤ 128) (g : Filled up bar name bytes len at state) {r : Next} (f : Follows up bar name at state r) where
+module _ {up bar : Bool} {name bytes : Bytes} {len at state : ℕ} (short : length name ≤ 128) (g : Filled up bar name bytes len at state) {r : Next}
+    (f : Follows up bar name at state r) where
   -- there is room for the next byte
   room : r .more ≡ true → len < 255
   room e = omega (arith, form-short up bar name, simp length-append at (ap length (rw (begins f e) at (g .left))), g .size)

@@ -37,10 +37,12 @@ pub record Passed (up bar : Bool) (name : Bytes) (at₀ state₀ at state : ℕ)
   pub same : leftOf (firstBy up) (laterBy bar) state (drop at name) ≡ leftOf (firstBy up) (laterBy bar) state₀ (drop at₀ name)
 
 module _ {up bar : Bool} {name : Bytes} {at₀ state₀ at state : ℕ} (g : Passed up bar name at₀ state₀ at state) where
-  pub passed : at < length name → {k : Bool} → k ≡ isBreak (getD name at 0) → k ≡ true → {s : ℕ} → s ≡ pick (eqb state 1) 2 state → Passed up bar name at₀ state₀ (at + 1) s
+  pub passed : at < length name → {k : Bool} → k ≡ isBreak (getD name at 0) → k ≡ true → {s : ℕ} → s ≡ pick (eqb state 1) 2 state
+      → Passed up bar name at₀ state₀ (at + 1) s
   passed h k t e =
       record {
-        same = rw (e, add-one) (sym (left-break (firstBy up) (laterBy bar) state (getD name at 0) (drop (suc at) name) (sym k ∙ t)) ∙ rw (← drop-cons name at 0 h) (g .same));
+        same = rw (e, add-one) (sym (left-break (firstBy up) (laterBy bar) state (getD name at 0) (drop (suc at) name) (sym k ∙ t))
+            ∙ rw (← drop-cons name at 0 h) (g .same));
       }
 
   pub at-word : {r : Next} → Follows up bar name at state r → Follows up bar name at₀ state₀ r
@@ -69,7 +71,8 @@ module _ (name : Bytes) (at : ℕ) {b : ℕ} (d : drop at name ≡ b ∷ drop (a
   unfolding pick
   follows q g = record { head = rw (g, d, q); tail = rw (g, d, q) }
 
-  pub first-word : (up bar : Bool) {s : ℕ} {r : Next} → s ≡ 0 → r ≡ pick up (gives (upperOf b) (at + 1) 1) (gives (lowerOf b) (at + 1) 1) → Follows up bar name at s r
+  pub first-word : (up bar : Bool) {s : ℕ} {r : Next} → s ≡ 0 → r ≡ pick up (gives (upperOf b) (at + 1) 1) (gives (lowerOf b) (at + 1) 1)
+      → Follows up bar name at s r
   unfolding pick
   first-word true bar z = follows (rw z (joined-begin b rest (laterBy bar) up e))
   first-word false bar z = follows (rw z (joined-begin b rest (laterBy bar) low e))
@@ -86,13 +89,16 @@ module _ (name : Bytes) (at : ℕ) {b : ℕ} (d : drop at name ≡ b ∷ drop (a
 
   -- a later word begins between words, and in a word with a capital
   module _ (up bar : Bool) {k : Bool} where
-    pub later-word : (s : ℕ) → k ≡ (eqb s 2 || (eqb s 1 && isUpper b)) → k ≡ true → {r : Next} → r ≡ pick bar (gives 95 at 3) (gives (upperOf b) (at + 1) 1) → Follows up bar name at s r
+    pub later-word : (s : ℕ) → k ≡ (eqb s 2 || (eqb s 1 && isUpper b)) → k ≡ true → {r : Next} → r ≡ pick bar (gives 95 at 3) (gives (upperOf b) (at + 1) 1)
+        → Follows up bar name at s r
     later-word zero q t = apart (sym t ∙ q)
     later-word (suc zero) q t = later up bar (in-capital b rest (laterBy bar) e (sym q ∙ t) ∙ sym (later-begin b rest (laterBy bar) e))
     later-word (suc (suc zero)) q t = later up bar refl
-    later-word (suc (suc (suc s))) q t = apart (sym t ∙ q ∙ rw (ne-eqb (suc (suc (suc s))) 2 (λ z. omega arith), ne-eqb (suc (suc (suc s))) 1 (λ z. omega arith)))
+    later-word (suc (suc (suc s))) q t =
+        apart (sym t ∙ q ∙ rw (ne-eqb (suc (suc (suc s))) 2 (λ z. omega arith), ne-eqb (suc (suc (suc s))) 1 (λ z. omega arith)))
 
-    pub goes-on : (s : ℕ) → (s ≡ 0 → ⊥) → k ≡ (eqb s 2 || (eqb s 1 && isUpper b)) → k ≡ false → {x : ℕ} → x ≡ lowerOf b → Follows up bar name at s (gives x (at + 1) 1)
+    pub goes-on : (s : ℕ) → (s ≡ 0 → ⊥) → k ≡ (eqb s 2 || (eqb s 1 && isUpper b)) → k ≡ false → {x : ℕ} → x ≡ lowerOf b
+        → Follows up bar name at s (gives x (at + 1) 1)
     goes-on zero n q f l = absurd (n refl)
     goes-on (suc zero) n q f l = follows (rw l (in-plain b rest (laterBy bar) e (sym q ∙ f))) refl
     goes-on (suc (suc zero)) n q f l = apart (sym q ∙ f)

@@ -126,26 +126,31 @@ order-differ {l} {x = x} {y = y} f g n = rw (f .whole, g .whole, order-common l 
     go true h = refl
     go false h = rw (lt-ltb y x (omega (arith, n, ltb-false x y h)))
 
-snake-itself : (name : Bytes) (at state : ℕ) → at < length name → state ≤ 2 → isPlain (getD name at 0) ≡ true → Begins (lead state) (getD name at 0) (snakeLeft name at state)
+snake-itself : (name : Bytes) (at state : ℕ) → at < length name → state ≤ 2 → isPlain (getD name at 0) ≡ true
+    → Begins (lead state) (getD name at 0) (snakeLeft name at state)
 snake-itself name at state h l e =
     record {
       rest = snakeLeft name (at + 1) (stateAfter state (getD name at 0));
-      whole = snake-added name at state h l ∙ rw (added-itself state (getD name at 0) e) (append-assoc (lead state) (getD name at 0 ∷ []) (snakeLeft name (at + 1) (stateAfter state (getD name at 0))));
+      whole = snake-added name at state h l ∙ rw (added-itself state (getD name at 0) e)
+          (append-assoc (lead state) (getD name at 0 ∷ []) (snakeLeft name (at + 1) (stateAfter state (getD name at 0))));
     }
 
-pub decided : {a b : Bytes} {at : ℕ} → at < length a → at < length b → {x y : Bool} → x ≡ isPlain (getD a at 0) → y ≡ isPlain (getD b at 0) → (x && y) ≡ true → Decided a b at
+pub decided : {a b : Bytes} {at : ℕ} → at < length a → at < length b → {x y : Bool} → x ≡ isPlain (getD a at 0) → y ≡ isPlain (getD b at 0) → (x && y) ≡ true
+    → Decided a b at
 decided h k u v e = let p = and-eq-true-iff _ _ .0 e in record { first = h; second = k; plain = sym u ∙ p .0; plain′ = sym v ∙ p .1 }
 
 pub decides : {a b : Bytes} {at : ℕ} → SameTo a b at → Decided a b at → byteOrder (getD a at 0) (getD b at 0) ≡ nameOrder a b
 decides {a} {b} {at} g d =
     let state = stateTo a at in
     let small = state-to-small a at in
-    order-differ (snake-itself a at state (d .first) small (d .plain)) (snake-itself b at state (d .second) small (d .plain′)) (g .apart (d .first) (d .second)) ∙ g .left
+    order-differ (snake-itself a at state (d .first) small (d .plain)) (snake-itself b at state (d .second) small (d .plain′))
+    (g .apart (d .first) (d .second)) ∙ g .left
 
 pub level : {a b : Bytes} {at s : ℕ} → SameTo a b at → s ≡ stateTo a at → Level a b at s at s
 level g e = record { order = rw e (sym (g .left)) }
 
-module _ {a b : Bytes} {i s j t : ℕ} (g : Level a b i s j t) {x y : Next} (f : Follows false true a i s x) (h : Follows false true b j t y) {p q : ℕ} (u : p ≡ codeOf x) (v : q ≡ codeOf y) where
+module _ {a b : Bytes} {i s j t : ℕ} (g : Level a b i s j t) {x y : Next} (f : Follows false true a i s x) (h : Follows false true b j t y) {p q : ℕ}
+    (u : p ≡ codeOf x) (v : q ≡ codeOf y) where
   first : p ≡ headOf (snakeLeft a i s)
   first = u ∙ f .head
 
@@ -166,7 +171,10 @@ module _ {a b : Bytes} {i s j t : ℕ} (g : Level a b i s j t) {x y : Next} (f :
     same z = sym (g .order ∙ both-end (snakeLeft a i s) (snakeLeft b j t) (sym first ∙ z) (sym second ∙ sym one ∙ z))
 
     pub further : Level a b (x .at) (x .state) (y .at) (y .state)
-    further = record { order = g .order ∙ heads-same (snakeLeft a i s) (snakeLeft b j t) (sym first ∙ one ∙ second) ∙ ap₂ orderOf (sym (f .tail)) (sym (h .tail)) }
+    further = record {
+      order = g .order ∙ heads-same (snakeLeft a i s) (snakeLeft b j t) (sym first ∙ one ∙ second)
+          ∙ ap₂ orderOf (sym (f .tail)) (sym (h .tail));
+    }
 
   -- and less is left of the first
   pub less : (p ≡ 0 → ⊥) → length (snakeLeft a (x .at) (x .state)) < length (snakeLeft a i s)

@@ -27,7 +27,8 @@ goes-on b (alike e) = alike (ap (λ (x : Bytes). b ∷ x) e)
 goes-on b (shorter h) = shorter (omega arith)
 
 -- a later word has its `_` again where it begins with a letter, and else has lost it
-word-begins : (b : ℕ) (letter : Bool) {l : Bool} {s n : Bytes} → Prints s n l → Prints (elim letter [ true ↦ 95 ∷ b ∷ s | false ↦ b ∷ s ]) (95 ∷ b ∷ n) (letter && l)
+word-begins : (b : ℕ) (letter : Bool) {l : Bool} {s n : Bytes} → Prints s n l
+    → Prints (elim letter [ true ↦ 95 ∷ b ∷ s | false ↦ b ∷ s ]) (95 ∷ b ∷ n) (letter && l)
 word-begins b true p = goes-on 95 (goes-on b p)
 word-begins b false (alike e) = shorter (omega (arith, ap length e))
 word-begins b false (shorter h) = shorter (omega arith)
@@ -38,10 +39,12 @@ record Again (bs : Bytes) : Type 0 where
   between : Prints (inWord barLow (laterWords up (wordsOf bs))) (laterWords barLow (wordsOf bs)) (all begins (wordsOf bs))
 
 -- a word that begins with the upper form of b
-begun : (b : ℕ) (bs : Bytes) → isBreak b ≡ false → inWord barLow (upperOf b ∷ bs) ≡ elim (isLetter b) [ true ↦ 95 ∷ lowerOf b ∷ inWord barLow bs | false ↦ lowerOf b ∷ inWord barLow bs ]
+begun : (b : ℕ) (bs : Bytes) → isBreak b ≡ false
+    → inWord barLow (upperOf b ∷ bs) ≡ elim (isLetter b) [ true ↦ 95 ∷ lowerOf b ∷ inWord barLow bs | false ↦ lowerOf b ∷ inWord barLow bs ]
 begun b bs e = go (isLetter b) refl
   where
-    go : (x : Bool) → isLetter b ≡ x → inWord barLow (upperOf b ∷ bs) ≡ elim (isLetter b) [ true ↦ 95 ∷ lowerOf b ∷ inWord barLow bs | false ↦ lowerOf b ∷ inWord barLow bs ]
+    go : (x : Bool) → isLetter b ≡ x
+        → inWord barLow (upperOf b ∷ bs) ≡ elim (isLetter b) [ true ↦ 95 ∷ lowerOf b ∷ inWord barLow bs | false ↦ lowerOf b ∷ inWord barLow bs ]
     go true h = in-capital (upperOf b) bs barLow (upper-break b e) (upper-letter b ∙ h) ∙ rw (h, lower-upper b)
     go false h = in-plain (upperOf b) bs barLow (upper-break b e) (upper-letter b ∙ h) ∙ rw (h, lower-upper b)
 
@@ -49,7 +52,8 @@ again : (bs : Bytes) → Again bs
 again [] = record { inside = alike refl; between = alike refl }
 again (b ∷ bs) = go (isBreak b) (isUpper b) refl refl (again bs)
   where
-    later : isBreak b ≡ false → Again bs → Prints (inWord barLow (upperOf b ∷ inWord up bs)) (95 ∷ lowerOf b ∷ inWord barLow bs) (isLetter b && all begins (unempty (pieces bs .later)))
+    later : isBreak b ≡ false → Again bs
+        → Prints (inWord barLow (upperOf b ∷ inWord up bs)) (95 ∷ lowerOf b ∷ inWord barLow bs) (isLetter b && all begins (unempty (pieces bs .later)))
     later e a = rw (begun b (inWord up bs) e) (word-begins (lowerOf b) (isLetter b) (a .inside))
 
     go : (x y : Bool) → isBreak b ≡ x → isUpper b ≡ y → Again bs → Again (b ∷ bs)
@@ -65,7 +69,14 @@ again (b ∷ bs) = go (isBreak b) (isUpper b) refl refl (again bs)
         }
     go false false e h a =
         record {
-          inside = rw (in-plain b bs up e h, in-plain b bs barLow e h, piece-plain b bs e h, lower-plain b h, in-plain b (inWord up bs) barLow e h, lower-plain b h) (goes-on b (a .inside));
+          inside = rw (
+            in-plain b bs up e h,
+            in-plain b bs barLow e h,
+            piece-plain b bs e h,
+            lower-plain b h,
+            in-plain b (inWord up bs) barLow e h,
+            lower-plain b h,
+          ) (goes-on b (a .inside));
           between = rw (words-begin b bs e) (later e a);
         }
 
@@ -73,11 +84,18 @@ first : (bs : Bytes) → Prints (joined low barLow (wordsOf (joined up up (words
 first [] = alike refl
 first (b ∷ bs) = go (isBreak b) refl (first bs)
   where
-    go : (x : Bool) → isBreak b ≡ x → Prints (joined low barLow (wordsOf (joined up up (wordsOf bs)))) (joined low barLow (wordsOf bs)) (laterBegin (wordsOf bs))
+    go : (x : Bool) → isBreak b ≡ x
+        → Prints (joined low barLow (wordsOf (joined up up (wordsOf bs)))) (joined low barLow (wordsOf bs)) (laterBegin (wordsOf bs))
         → Prints (joined low barLow (wordsOf (joined up up (wordsOf (b ∷ bs))))) (joined low barLow (wordsOf (b ∷ bs))) (laterBegin (wordsOf (b ∷ bs)))
     go true e p = rw (words-break b bs e) p
     go false e p =
-        rw (joined-begin b bs up up e, joined-begin b bs barLow low e, words-begin b bs e, joined-begin (upperOf b) (inWord up bs) barLow low (upper-break b e), lower-upper b)
+        rw (
+          joined-begin b bs up up e,
+          joined-begin b bs barLow low e,
+          words-begin b bs e,
+          joined-begin (upperOf b) (inWord up bs) barLow low (upper-break b e),
+          lower-upper b,
+        )
         (goes-on (lowerOf b) (again bs .inside))
 
 decides : (a b : Bytes) {l : Bool} → Prints (snakeOf a) (snakeOf b) l → sameName a b ≡ l

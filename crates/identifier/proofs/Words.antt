@@ -13,10 +13,12 @@ use Rattle.identifier.specs.Join.{joinOf}
 pub piece-break : (b : ℕ) (bs : Bytes) → isBreak b ≡ true → pieces (b ∷ bs) ≡ record { first = []; later = pieces bs .first ∷ pieces bs .later }
 piece-break b bs e = rw (e, afterByte)
 
-pub piece-capital : (b : ℕ) (bs : Bytes) → isBreak b ≡ false → isUpper b ≡ true → pieces (b ∷ bs) ≡ record { first = []; later = (b ∷ pieces bs .first) ∷ pieces bs .later }
+pub piece-capital : (b : ℕ) (bs : Bytes) → isBreak b ≡ false → isUpper b ≡ true
+    → pieces (b ∷ bs) ≡ record { first = []; later = (b ∷ pieces bs .first) ∷ pieces bs .later }
 piece-capital b bs e h = rw (e, h, afterByte)
 
-pub piece-plain : (b : ℕ) (bs : Bytes) → isBreak b ≡ false → isUpper b ≡ false → pieces (b ∷ bs) ≡ record { first = b ∷ pieces bs .first; later = pieces bs .later }
+pub piece-plain : (b : ℕ) (bs : Bytes) → isBreak b ≡ false → isUpper b ≡ false
+    → pieces (b ∷ bs) ≡ record { first = b ∷ pieces bs .first; later = pieces bs .later }
 piece-plain b bs e h = rw (e, h, afterByte)
 
 pub words-break : (b : ℕ) (bs : Bytes) → isBreak b ≡ true → wordsOf (b ∷ bs) ≡ wordsOf bs

@@ -88,7 +88,8 @@ pub record Writing (bytes : List ℕ → Bytes) (items : List ℕ) (o₀ : Bytes
   pub size : length o ≡ length o₀
 
 module _ {bytes : List ℕ → Bytes} {items : List ℕ} {o₀ : Bytes} {a₀ : ℕ} {o : Bytes} {a i : ℕ} (s : Writing bytes items o₀ a₀ o a i) where
-  pub wrote-one : i < length items → {one o′ : Bytes} {r : ℕ} → bytes (getD items i 0 ∷ drop (suc i) items) ≡ one ++ bytes (drop (suc i) items) → Wrote o a one o′ r
+  pub wrote-one : i < length items → {one o′ : Bytes} {r : ℕ} → bytes (getD items i 0 ∷ drop (suc i) items) ≡ one ++ bytes (drop (suc i) items)
+      → Wrote o a one o′ r
       → Writing bytes items o₀ a₀ o′ r (i + 1)
   wrote-one h e w = record { left = rest-step w (s .left) (rw (add-one, drop-cons items i 0 h) e); size = wrote-length w ∙ s .size }
 

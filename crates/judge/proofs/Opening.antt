@@ -21,7 +21,8 @@ use Rattle.judge.specs.declared.Judged.{Judged}
 use Rattle.judge.proofs.Ahead.{room-left}
 use Rattle.judge.proofs.Errors.{errors-append}
 
-module _ {t : Bytes} {c : Cursor} {items spare : List ℕ} (r : Room t (record { at = 0 }) items spare) (b : Before t (parseOpening (tokensFrom t 0) .rest) c) where
+module _ {t : Bytes} {c : Cursor} {items spare : List ℕ} (r : Room t (record { at = 0 }) items spare)
+    (b : Before t (parseOpening (tokensFrom t 0) .rest) c) where
   opening-less : length (ahead t c) ≤ length (tokensFrom t 0)
   opening-less = rw (b .tokens) (opening-count (tokensFrom t 0))
 
@@ -35,7 +36,8 @@ module _ {t : Bytes} {c : Cursor} {items spare : List ℕ} (r : Room t (record {
 -- The schema: after its comment the imports, then the declarations, and no token is left.
 pub schema-judged : {t : Bytes} {end : ℕ} {c : Cursor} {o : Bytes} {at : ℕ} {o₁ : Bytes} {i : Judged} {o₂ : Bytes} {r : ℕ} → end ≡ endOf 0 (tokensFrom t 0)
     → Before t (parseOpening (tokensFrom t 0) .rest) c → Judges t o at (importsOf end [] (ahead t c)) o₁ i
-    → Wrote o₁ (i .out) (errorsBytes (declarationsOf end (ahead t (i .next)) .errors)) o₂ r → Wrote o at (errorsBytes (parseSchema (tokensFrom t 0) .errors)) o₂ r
+    → Wrote o₁ (i .out) (errorsBytes (declarationsOf end (ahead t (i .next)) .errors)) o₂ r
+    → Wrote o at (errorsBytes (parseSchema (tokensFrom t 0) .errors)) o₂ r
 schema-judged {t} {end} e b j w =
     let is′ = importsOf end [] (parseOpening (tokensFrom t 0) .rest) in
     let ds = declarationsOf end (is′ .rest) in

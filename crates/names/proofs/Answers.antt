@@ -52,7 +52,8 @@ module _ {o bs e : Bytes} {need : ℕ} (m : Wrote [] 0 bs e need) (k : length o 
       record { answer = rw (t, p .1); buffer = rw t (p .0) }
 
 -- a form that was stored
-pub stored : {good k : Bool} {bytes form o o′ : Bytes} {len : ℕ} {r : Answer} → IsForm bytes len form → Answers true (take len bytes) o o′ r → k ≡ good → k ≡ true → Answers good form o o′ r
+pub stored : {good k : Bool} {bytes form o o′ : Bytes} {len : ℕ} {r : Answer} → IsForm bytes len form → Answers true (take len bytes) o o′ r → k ≡ good
+    → k ≡ true → Answers good form o o′ r
 stored f a e t = good-input (rw (front f) at a) e t
 
 pub short : (name : Bytes) {k : Bool} → k ≡ isName name → k ≡ true → length name ≤ 128

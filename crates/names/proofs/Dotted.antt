@@ -44,7 +44,8 @@ unfolding isNamespace namesOf textOf
 begin {ns} e = record { names = namesOf ns; held = holds 64 ns e; rest = rest-all; same = refl }
 
 module _ {ns o₀ o : Bytes} {a₀ a p : ℕ} (g : Texted ns o₀ a₀ o a p) where
-  pub name : p < length ns → {x o₁ o₂ : Bytes} {a₁ a₂ : ℕ} → x ≡ nameAt ns p → Wrote o a (dotAt p) o₁ a₁ → Wrote o₁ a₁ (snakeOf x) o₂ a₂ → Texted ns o₀ a₀ o₂ a₂ (p + 2 + length x)
+  pub name : p < length ns → {x o₁ o₂ : Bytes} {a₁ a₂ : ℕ} → x ≡ nameAt ns p → Wrote o a (dotAt p) o₁ a₁ → Wrote o₁ a₁ (snakeOf x) o₂ a₂
+      → Texted ns o₀ a₀ o₂ a₂ (p + 2 + length x)
   name k {x} e u v =
       let h = here ns (g .held) k in
       let n : p + 2 + length x ≡ suc (p + 1 + length x) = omega arith in

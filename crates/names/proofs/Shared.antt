@@ -128,7 +128,8 @@ module _ {a b : Bytes} {i j : ℕ} (g : Parted a b i j) where
   pub tail-good : isNamespace (take (length b - j) (drop j b)) ≡ true
   tail-good = rw (tail-is b j) (g .good)
 
-  pub relative-stored : {n : ℕ} {o o′ : Bytes} {r : Answer} {s : Relative} → n ≡ length (namesOf (take (length b - j) (drop j b))) → Answers true (take (length a - i) (drop i a)) o o′ r → s ≡ withSteps n r
+  pub relative-stored : {n : ℕ} {o o′ : Bytes} {r : Answer} {s : Relative} → n ≡ length (namesOf (take (length b - j) (drop j b)))
+      → Answers true (take (length a - i) (drop i a)) o o′ r → s ≡ withSteps n r
       → Relatives true (relativeOf a b) (stepsUp a b) o o′ s
   relative-stored {n} e p q =
       let u : n ≡ stepsUp a b = e ∙ rw (tail-is b j) (g .up) in

@@ -12,7 +12,8 @@ use Rattle.identifier.specs.Byte.{lowerOf}
 use Rattle.identifier.specs.Name.{isName}
 use Rattle.identifier.specs.Forms.{snakeOf}
 use Rattle.identifier.specs.Order.{sameName, nameOrder}
-use Rattle.names.specs.Namespace.{firstName, afterName, startsName, isNamespace, namesIn, namesOf, afterNames, textOf, common, commonOf, relativeOf, stepsUp}
+use Rattle.names.specs.Namespace.{firstName, afterName, startsName, isNamespace, namesIn, namesOf}
+use Rattle.names.specs.Namespace.{afterNames, textOf, common, commonOf, relativeOf, stepsUp}
 use Rattle.names.proofs.Walk.{Holds, none, more, holds, holds-names}
 use Rattle.names.proofs.Shared.{few}
 
@@ -30,7 +31,11 @@ common-start (x ∷ xs) (y ∷ ys) = go (sameName x y) refl (common-start xs ys)
     go : (b : Bool) → sameName x y ≡ b → CommonStart xs ys (common xs ys) → CommonStart (x ∷ xs) (y ∷ ys) (common (x ∷ xs) (y ∷ ys))
     go true e c =
         let k : common (x ∷ xs) (y ∷ ys) ≡ suc (common xs ys) = rw (e, common) in
-        rw k (record { same = below; longest = λ h l. c .longest (omega arith) (omega arith); inside = (omega (arith, c .inside .0), omega (arith, c .inside .1)) })
+        rw k (record {
+          same = below;
+          longest = λ h l. c .longest (omega arith) (omega arith);
+          inside = (omega (arith, c .inside .0), omega (arith, c .inside .1));
+        })
       where
         below : (i : ℕ) → i < suc (common xs ys) → sameName (getD (x ∷ xs) i []) (getD (y ∷ ys) i []) ≡ true
         below zero h = e
@@ -52,7 +57,8 @@ after-holds (suc k) (more s r) l = after-holds k r (omega arith)
 pub relative-names : (a b : Bytes) → isNamespace a ≡ true → namesOf (relativeOf a b) ≡ drop (commonOf a b) (namesOf a)
 unfolding isNamespace namesOf relativeOf
 relative-names a b e =
-    holds-names 64 (after-holds (commonOf a b) (holds 64 a e) (common-start-of a b .inside .0)) (omega (arith, length-drop (commonOf a b) (namesOf a), few 64 a)) .1
+    holds-names 64 (after-holds (commonOf a b) (holds 64 a e) (common-start-of a b .inside .0))
+    (omega (arith, length-drop (commonOf a b) (namesOf a), few 64 a)) .1
 
 pub given-back : (a b : Bytes) → isNamespace a ≡ true → take (commonOf a b) (namesOf a) ++ namesOf (relativeOf a b) ≡ namesOf a
 given-back a b e = rw (relative-names a b e) (take-append-drop (commonOf a b) (namesOf a))

@@ -28,7 +28,8 @@ holds zero (b ∷ bs) e = let z : _≡_ {A = ℕ} 0 1 = cc in absurd (omega arit
 holds (suc n) [] e = none
 holds (suc n) (b ∷ bs) e = go (startsName (b ∷ bs)) refl (holds n (afterName (b ∷ bs)))
   where
-    go : (x : Bool) → startsName (b ∷ bs) ≡ x → (areNames n (afterName (b ∷ bs)) ≡ true → Holds (afterName (b ∷ bs)) (namesIn n (afterName (b ∷ bs)))) → Holds (b ∷ bs) (namesIn (suc n) (b ∷ bs))
+    go : (x : Bool) → startsName (b ∷ bs) ≡ x → (areNames n (afterName (b ∷ bs)) ≡ true → Holds (afterName (b ∷ bs)) (namesIn n (afterName (b ∷ bs))))
+        → Holds (b ∷ bs) (namesIn (suc n) (b ∷ bs))
     go true s h = more s (h (rw (s, areNames) at e))
     go false s h = let f = rw (s, areNames) at e in let z : _≡_ {A = ℕ} 0 1 = cc in absurd (omega arith)
 
@@ -125,13 +126,21 @@ module _ (ns : Bytes) (at : ℕ) where
     pub cut-name : length ns - (at + 2) < n → 0 ≡ endOf ns at
     unfolding endOf startsName pick
     cut-name k =
-        rw (le-leb 2 (length (drop at ns)) (omega (arith, length-drop at ns)), lt-leb (2 + u16At (drop at ns) 0) (length (drop at ns)) (omega (arith, length-drop at ns, here-too)))
+        rw (
+          le-leb 2 (length (drop at ns)) (omega (arith, length-drop at ns)),
+          lt-leb (2 + u16At (drop at ns) 0) (length (drop at ns)) (omega (arith, length-drop at ns, here-too)),
+        )
 
     module _ (k : n ≤ length ns - (at + 2)) {b : Bool} (q : b ≡ isName (take (at + 2 + n - (at + 2)) (drop (at + 2) ns))) where
       named : startsName (drop at ns) ≡ b
       unfolding startsName
       named =
-          rw (le-leb 2 (length (drop at ns)) (omega (arith, length-drop at ns)), le-leb (2 + u16At (drop at ns) 0) (length (drop at ns)) (omega (arith, length-drop at ns, here-too)), first-is ns at, ← e)
+          rw (
+            le-leb 2 (length (drop at ns)) (omega (arith, length-drop at ns)),
+            le-leb (2 + u16At (drop at ns) 0) (length (drop at ns)) (omega (arith, length-drop at ns, here-too)),
+            first-is ns at,
+            ← e,
+          )
           (let z : at + 2 + n - (at + 2) ≡ n = omega arith in sym (rw z at q))
 
       pub whole-name : b ≡ true → at + 2 + n ≡ endOf ns at
@@ -167,7 +176,8 @@ module _ {ns : Bytes} {left at : ℕ} (g : Checked ns left at) where
       left-is : left ≡ suc (left - 1)
       left-is = omega arith
 
-      steps : (x : Bool) → startsName (drop at ns) ≡ x → areNames left (drop at ns) ≡ elim x [ true ↦ areNames (left - 1) (afterName (drop at ns)) | false ↦ false ]
+      steps : (x : Bool) → startsName (drop at ns) ≡ x
+          → areNames left (drop at ns) ≡ elim x [ true ↦ areNames (left - 1) (afterName (drop at ns)) | false ↦ false ]
       steps x s = rw left-is (step (left - 1) (drop at ns) x (rw length-drop (omega arith)) s)
 
       pub bad-name : end ≡ 0 → false ≡ isNamespace ns

@@ -33,10 +33,20 @@ module _ {t : Bytes} {c colon : Cursor} {o x : Skip} (n : Named t c o x colon) w
       index-fails r = then _ (n .comment .read) (then _ (n .rule .read) (then _ (n .name .read) (then _ (y .read) (then _ (e .read) (stop _ r)))))
 
       pub field : {after : Cursor} → TokenPassed t index (consume 13 (is kInteger)) after
-          → FieldRead t c (Passed (record { first = c .at; commented = o .there; rule = o .next .at; ruled = x .there; name = x .next .at; part = part; equals = equals .at; index = index .at }) after)
+          → FieldRead t c (Passed (record {
+            first = c .at;
+            commented = o .there;
+            rule = o .next .at;
+            ruled = x .there;
+            name = x .next .at;
+            part = part;
+            equals = equals .at;
+            index = index .at;
+          }) after)
       field i =
           record {
-            read = then _ (n .comment .read) (then _ (n .rule .read) (then _ (n .name .read) (then _ (y .read) (then _ (e .read) (then _ (i .read) (done (i .read .wf)))))));
+            read = then _ (n .comment .read) (then _ (n .rule .read) (then _ (n .name .read)
+                (then _ (y .read) (then _ (e .read) (then _ (i .read) (done (i .read .wf)))))));
             stands = record {
               first = (n .wf, omega (arith, n .comment .read .onward, n .rule .read .onward, n .name .here .1));
               rule = (n .comment .read .wf, omega (arith, n .rule .read .onward, n .name .here .1));
@@ -47,5 +57,14 @@ module _ {t : Bytes} {c colon : Cursor} {o x : Skip} (n : Named t c o x colon) w
             };
             laid = rw (← n .comment .place, ← n .rule .place, ← n .name .place, ← y .laid, ← y .end, ← e .place);
             first = rw (n .rule .first) (n .comment .first);
-            eats = omega (arith, n .comment .read .onward, n .rule .read .onward, n .name .read .onward, y .read .onward, e .read .onward, i .place, next-past t (index .at));
+            eats = omega (
+              arith,
+              n .comment .read .onward,
+              n .rule .read .onward,
+              n .name .read .onward,
+              y .read .onward,
+              e .read .onward,
+              i .place,
+              next-past t (index .at),
+            );
           }

@@ -59,7 +59,8 @@ module _ {t : Bytes} {c name : Cursor} {o : Skip} {number : ℕ} (b : Begun t c 
   kw : Reads t (o .next) (parseKeyword (when (o .there) (tokAt t (c .at)))) (ok (tokAt t (o .next .at))) name
   kw = keyword (b .comment) (b .goes) (consumed 1 isKeyword (b .step) (b .keyword) .read)
 
-  named : {out : List Token → Result Token} {d : Cursor} → Reads t name (consume number (is kIdentifier)) out d → Reads t name (consume (nameNumber (tokAt t (o .next .at))) (is kIdentifier)) out d
+  named : {out : List Token → Result Token} {d : Cursor} → Reads t name (consume number (is kIdentifier)) out d
+      → Reads t name (consume (nameNumber (tokAt t (o .next .at))) (is kIdentifier)) out d
   named r = rw (rw (b .step .first) at (b .missing)) at r
 
   pub name-fails : {n : ℕ} {d : Cursor} → Reads t name (consume number (is kIdentifier)) (fail n) d → Reads t c parseHead (fail n) d

@@ -35,14 +35,16 @@ module _ {t : Bytes} {c path : Cursor} (s : Stepped t c path) where
         }
 
     module _ {name : Cursor} (a : Stepped t alias name) (e : is kAs (kindAt (ahead t alias)) ≡ true) where
-      pub alias-fails : {n : ℕ} {d : Cursor} → Reads t name (consume 7 (is kIdentifier)) (fail n) d → Reads t (past t c) (parseImport (tokAt t (c .at))) (fail n) d
+      pub alias-fails : {n : ℕ} {d : Cursor} → Reads t name (consume 7 (is kIdentifier)) (fail n) d
+          → Reads t (past t c) (parseImport (tokAt t (c .at))) (fail n) d
       alias-fails r = from-keyword (then _ (p .read) (stop _ (broken (is kAs) parseAlias a e (stop _ r))))
 
       pub aliased : {after : Cursor} → TokenPassed t name (consume 7 (is kIdentifier)) after
           → ImportRead t c (Passed (record { first = c .at; path = path .at; aliased = true; last = name .at }) after)
       aliased q =
           record {
-            read = rw (← p .place) (from-keyword (then _ (p .read) (then _ (present (is kAs) parseAlias a e (then _ (q .read) (done (q .read .wf)))) (done (q .read .wf)))));
+            read = rw (← p .place) (from-keyword (then _ (p .read) (then _ (present (is kAs) parseAlias a e (then _ (q .read) (done (q .read .wf))))
+                (done (q .read .wf)))));
             stands = record { first = s .here; path = p .here; last = q .here };
             laid = rw (← s .place, ← p .place, ← a .place);
             first = refl;

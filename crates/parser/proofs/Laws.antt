@@ -61,7 +61,11 @@ module _ {t : Bytes} {c d : Cursor} where
   pub consumed : (n : ℕ) (test : ℕ → Bool) → Stepped t c d → test (kindAt (ahead t c)) ≡ true → TokenPassed t c (consume n test) d
   consumed n test s e =
       record {
-        read = record { gives = rw (s .first) (consume-complete n test _ _ (rw (s .first) at e)); wf = s .wf; onward = omega (arith, s .place, next-past t (c .at)) };
+        read = record {
+          gives = rw (s .first) (consume-complete n test _ _ (rw (s .first) at e));
+          wf = s .wf;
+          onward = omega (arith, s .place, next-past t (c .at));
+        };
         here = s .here;
         place = s .place;
       }
@@ -73,7 +77,8 @@ not-consumed {t} {c} n test w e = record { gives = consume-fails n test (ahead t
 pub done : {A : Type 0} {t : Bytes} {c : Cursor} {out : List Token → Result A} → Wf t (c .at) → Reads t c out out c
 done w = record { gives = refl; wf = w; onward = omega arith }
 
-pub alike : {A : Type 0} {t : Bytes} {c d : Cursor} (rule rule′ : List Token → Result A) {out : List Token → Result A} → rule′ (ahead t c) ≡ rule (ahead t c) → Reads t c rule out d → Reads t c rule′ out d
+pub alike : {A : Type 0} {t : Bytes} {c d : Cursor} (rule rule′ : List Token → Result A) {out : List Token → Result A} → rule′ (ahead t c) ≡ rule (ahead t c)
+    → Reads t c rule out d → Reads t c rule′ out d
 alike rule rule′ e h = record { gives = e ∙ h .gives; wf = h .wf; onward = h .onward }
 
 module _ {A B : Type 0} {t : Bytes} {c d : Cursor} {rule : List Token → Result A} (f : A → List Token → Result B) where
@@ -89,7 +94,8 @@ module _ {A : Type 0} {t : Bytes} {c : Cursor} (test : ℕ → Bool) (rule : Tok
   absent w e = record { gives = optional-none test rule (ahead t c) e; wf = w; onward = omega arith }
 
   module _ {d e : Cursor} (s : Stepped t c d) (k : test (kindAt (ahead t c)) ≡ true) where
-    begins : {out : List Token → Result (Option A)} → Reads t d (λ ts. andThen (rule (tokAt t (c .at)) ts) λ x r. ok (some x) r) out e → Reads t c (optional test rule) out e
+    begins : {out : List Token → Result (Option A)} → Reads t d (λ ts. andThen (rule (tokAt t (c .at)) ts) λ x r. ok (some x) r) out e
+        → Reads t c (optional test rule) out e
     begins h =
         record {
           gives = rw (s .first) (rw (rw (s .first) at k, optional) (h .gives));

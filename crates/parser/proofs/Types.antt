@@ -48,13 +48,15 @@ dot {t} {c} {d} s e = rw (s .first) (go (ahead t d) refl)
         rw (k, rw (s .first) at e)
 
 -- what one rule read, another that agrees with it here has read
-read-as : (t : Bytes) (c : Cursor) (rule rule′ : List Token → Result TypeTree) → rule′ (ahead t c) ≡ rule (ahead t c) → (r : TypeStep) → TypeRead t c rule r → TypeRead t c rule′ r
+read-as : (t : Bytes) (c : Cursor) (rule rule′ : List Token → Result TypeTree) → rule′ (ahead t c) ≡ rule (ahead t c) → (r : TypeStep) → TypeRead t c rule r
+    → TypeRead t c rule′ r
 read-as t c rule rule′ e (Passed p after) h = record { read = alike rule rule′ e (h .read); stands = h .stands; laid = h .laid; end = h .end }
 read-as t c rule rule′ e (Failed number at) h = alike rule rule′ e h
 
 -- A base.
 module _ {t : Bytes} {c after : Cursor} where
-  base : {rule : List Token → Result TypeTree} (dotted : Bool) → Reads t c rule (ok (baseAt t (c .at) dotted)) after → BaseStands t (c .at) dotted → after .at ≡ baseEnd t dotted (c .at)
+  base : {rule : List Token → Result TypeTree} (dotted : Bool) → Reads t c rule (ok (baseAt t (c .at) dotted)) after → BaseStands t (c .at) dotted
+      → after .at ≡ baseEnd t dotted (c .at)
       → TypeRead t c rule (baseStep c dotted after)
   base dotted r s e = record { read = r; stands = record { brackets = tt; base = s }; laid = rw (add-zero, e); end = omega arith }
 
@@ -64,7 +66,8 @@ module _ {t : Bytes} {c after : Cursor} where
       let k = eq-eqb _ kIdentifier (token-sound 9 kIdentifier (ahead t c) (p .read .gives) .1) in
       base false (rw k (then _ (p .read) (done (p .read .wf)))) (p .here) (p .place)
 
-  pub dotted : {d e : Cursor} → TokenPassed t c (consume 10 (is kIdentifier)) d → TokenPassed t d (consume 9 (is kDot)) e → TokenPassed t e (consume 9 (is kIdentifier)) after
+  pub dotted : {d e : Cursor} → TokenPassed t c (consume 10 (is kIdentifier)) d → TokenPassed t d (consume 9 (is kDot)) e
+      → TokenPassed t e (consume 9 (is kIdentifier)) after
       → TypeRead t c parseDotted (baseStep c true after)
   dotted p q r =
       base true (rw (← p .place, ← q .place) (then _ (p .read) (then _ (q .read) (then _ (r .read) (done (r .read .wf))))))
@@ -84,7 +87,8 @@ module _ {t : Bytes} {c d : Cursor} (n : kindAt (ahead t c) ≢ kLeftSquare) (s 
   plain e =
       let o = other e in
       let k = not-kind isPlain (tokAt t (c .at) .kind) kIdentifier (o .1) refl in
-      base false (rw k (record { gives = rw (s .first) (rw (o .0, o .1, parseType)); wf = s .wf; onward = omega (arith, s .place, next-past t (c .at)) })) (s .here) (s .place)
+      base false (rw k (record { gives = rw (s .first) (rw (o .0, o .1, parseType)); wf = s .wf; onward = omega (arith, s .place, next-past t (c .at)) }))
+      (s .here) (s .place)
 
   module _ (e : isPlain (kindAt (ahead t c)) ≡ false) where
     pub as-dotted : isDotted (ahead t d) ≡ true → (r : TypeStep) → TypeRead t c parseDotted r → TypeRead t c parseType r

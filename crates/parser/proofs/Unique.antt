@@ -48,7 +48,8 @@ filled t [] at w e = go (ltb at (length t)) refl
     go false l = omega (arith, w .inside, ltb-false at (length t) l)
 filled t (x ∷ xs) at w e = go (ltb at (length t)) refl (filled t xs)
   where
-    go : (b : Bool) → ltb at (length t) ≡ b → ((n : ℕ) → Wf t n → tokensFrom t n ≡ xs → n + sizesOf xs ≡ length t) → at + (12 + length (x .payload) + sizesOf xs) ≡ length t
+    go : (b : Bool) → ltb at (length t) ≡ b → ((n : ℕ) → Wf t n → tokensFrom t n ≡ xs → n + sizesOf xs ≡ length t)
+        → at + (12 + length (x .payload) + sizesOf xs) ≡ length t
     go false l ih = absurd (cons≢nil (sym e ∙ tokens-end t at (ltb-false at (length t) l)))
     go true l ih =
         let h = ltb-true at (length t) l in
@@ -151,7 +152,8 @@ field-one t c (field.Passed f d) (field.Passed g e) a b =
     let k = when-one (f .commented) (g .commented) _ _ (ap (λ (x : FieldTree). x .comment) (o .0)) in
     let l = when-one (f .ruled) (g .ruled) _ _ (ap (λ (x : FieldTree). x .rule) (o .0)) in
     let n = ap (λ (x : FieldPlaces). x .name) (a .laid) ∙ (λ i. skipAt t (l i) (skipAt t (k i) (c .at))) ∙ sym (ap (λ (x : FieldPlaces). x .name) (b .laid)) in
-    let p = part-one t (nextAt t (f .name)) (f .part) (g .part) (ap (λ (x : FieldTree). x .type) (o .0)) ∙ ap (λ (m : ℕ). partLaid t (nextAt t m) (g .part)) n in
+    let p = part-one t (nextAt t (f .name)) (f .part) (g .part) (ap (λ (x : FieldTree). x .type) (o .0))
+    ∙ ap (λ (m : ℕ). partLaid t (nextAt t m) (g .part)) n in
     let fg = a .laid ∙ (λ i. fieldLaid t (c .at) (k i) (l i) (p i)) ∙ sym (b .laid) in
     λ i. field.Passed (fg i) (o .1 i)
 field-one t c (field.Failed n d) (field.Failed m e) a b = let o = fail-one a b in λ i. field.Failed (o .0 i) (o .1 i)

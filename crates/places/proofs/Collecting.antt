@@ -50,7 +50,8 @@ pub record Collecting (t : Bytes) (from : Cursor) (items₀ items : List ℕ) (s
   pub room : length (ahead t from) ≤ length items
   pub size : length items ≡ length items₀
 
-pub collecting : {t : Bytes} {from : Cursor} {items : List ℕ} → Wf t (from .at) → length (ahead t from) ≤ length items → Collecting t from items items true 0 from
+pub collecting : {t : Bytes} {from : Cursor} {items : List ℕ} → Wf t (from .at) → length (ahead t from) ≤ length items
+    → Collecting t from items items true 0 from
 collecting w h = record { wf = w; whole = true; walk = λ b xs end m. rw (and-true b) m; sound-is = refl; short = omega arith; room = h; size = refl }
 
 module _ {t : Bytes} {from : Cursor} {items₀ items : List ℕ} {sound : Bool} {n : ℕ} {c : Cursor} (g : Collecting t from items₀ items sound n c) where
@@ -108,7 +109,8 @@ module _ {t : Bytes} {from : Cursor} {items₀ items : List ℕ} {sound : Bool} 
           record {
             wf = p .read .wf;
             whole = g .whole;
-            walk = λ b xs end m. rw (f, append-snoc (take n items) x xs) (g .walk b (x ∷ xs) end (read keyword a import-here refl (p .read .wf) (later (p .read)) m));
+            walk = λ b xs end m. rw (f, append-snoc (take n items) x xs)
+                (g .walk b (x ∷ xs) end (read keyword a import-here refl (p .read .wf) (later (p .read)) m));
             sound-is = rw f s;
             short = omega (arith, g .short, fewer (ok (trees.importAt t i) (ahead t d)) (p .read .gives));
             room = omega (arith, g .room, l);

@@ -25,13 +25,15 @@ front-stops : (ts : List Token) → is kInteger (kindAt ts) ≡ false → (front
 front-stops [] n = (refl, refl)
 front-stops (x ∷ xs) n = rw (n, front, skip) (refl, refl)
 
-front-step : (x : Token) (xs : List Token) → x .kind ≡ kInteger → (front (is kInteger) (x ∷ xs) ≡ x ∷ front (is kInteger) xs) × (skip (is kInteger) (x ∷ xs) ≡ skip (is kInteger) xs)
+front-step : (x : Token) (xs : List Token) → x .kind ≡ kInteger
+    → (front (is kInteger) (x ∷ xs) ≡ x ∷ front (is kInteger) xs) × (skip (is kInteger) (x ∷ xs) ≡ skip (is kInteger) xs)
 front-step x xs e = rw (eq-eqb (x .kind) kInteger e, front, skip) (refl, refl)
 
 pub integers-tokens : (t : Bytes) (at : ℕ) (ps : List ℕ) → Integers t at ps → map (tokAt t) ps ≡ front (is kInteger) (tokensFrom t at)
 integers-tokens t at [] w = sym (front-stops (tokensFrom t at) w .0)
 integers-tokens t at (p ∷ ps) w =
-    rw (w .0, tokens-step t at (w .1 .1)) (ap (tokAt t at ∷_) (integers-tokens t (nextAt t at) ps (w .2)) ∙ sym (front-step (tokAt t at) (tokensFrom t (nextAt t at)) (w .1 .2) .0))
+    rw (w .0, tokens-step t at (w .1 .1)) (ap (tokAt t at ∷_) (integers-tokens t (nextAt t at) ps (w .2))
+    ∙ sym (front-step (tokAt t at) (tokensFrom t (nextAt t at)) (w .1 .2) .0))
 
 pub stepped-less : {t : Bytes} {c d : Cursor} → Stepped t c d → length t - d .at < length t - c .at
 stepped-less {t} {c} p = omega (arith, p .place, next-past t (c .at), p .here .1, p .wf .inside)

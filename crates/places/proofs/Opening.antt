@@ -52,7 +52,8 @@ module _ {t : Bytes} {d : Cursor} (k : kindAt (tokensFrom t 0) ≡ kComment) (p 
   kind : tokAt t 0 .kind ≡ kComment
   kind = rw (p .first) at k
 
-  opening : parseOpening (tokAt t 0 ∷ ahead t d) ≡ record { errors = []; value = some (tokAt t 0); rest = ahead t d } → Opening t (record { there = true; next = d })
+  opening : parseOpening (tokAt t 0 ∷ ahead t d) ≡ record { errors = []; value = some (tokAt t 0); rest = ahead t d }
+      → Opening t (record { there = true; next = d })
   opening e = record { read = rw (p .first) e; comment = (p .here, kind); short = omega (arith, ap length (p .first)); wf = p .wf }
 
   pub opened-alone : isKeyword (kindAt (ahead t d)) ≡ false → Opening t (record { there = true; next = d })

@@ -29,7 +29,8 @@ not-true : {b : Bool} → not b ≡ true → b ≡ false
 not-true {b} h = sym (Bool·not-not b) ∙ ap not h
 
 -- elements that stand for others are taken as those are
-taken-map : {A B : Type 0} (f : A → B) (isSame : B → B → Bool) (before xs : List A) → anyTaken isSame (map f before) (map f xs) ≡ anyTaken (λ x y. isSame (f x) (f y)) before xs
+taken-map : {A B : Type 0} (f : A → B) (isSame : B → B → Bool) (before xs : List A)
+    → anyTaken isSame (map f before) (map f xs) ≡ anyTaken (λ x y. isSame (f x) (f y)) before xs
 taken-map f isSame before [] = refl
 taken-map f isSame before (x ∷ xs) = ap₂ _||_ (any-map f (isSame (f x)) before) (taken-map f isSame (x ∷ before) xs)
 
@@ -74,7 +75,8 @@ module _ {t : Bytes} {imports : List ℕ} {r : Ordered} (o : Orders t imports r)
       pub orders-each : All (NamedHere t) imports
       orders-each =
           rw in-order
-          (each-sort (NamedHere t) (itemBefore t Name) (o .items) (each-named t (o .items) (walk-keywords (o .walk)) (walk-items (o .walk)) (walk-clear (o .walk) end [] e .0)))
+          (each-sort (NamedHere t) (itemBefore t Name) (o .items) (each-named t (o .items) (walk-keywords (o .walk)) (walk-items (o .walk))
+          (walk-clear (o .walk) end [] e .0)))
 
       pub orders-sorted : map (λ x. importOf (treeAt t x)) imports ≡ sortBy comesBefore (map importOf (reading end .value))
       orders-sorted = rw (in-order, walk-value (o .walk) end []) (trees-sorted t (o .items))

@@ -54,17 +54,20 @@ module _ {t : Bytes} {at : ℕ} (k : Keyword t at) where
 
   shorter : {m : Result ImportTree} → parseImport (tokAt t at) (tokensFrom t (nextAt t at)) ≡ m → length (left m) < length (tokensFrom t at)
   shorter {m} p =
-      let l : length (left m) ≤ length (tokensFrom t (nextAt t at)) = rw p at (import-left (tokAt t at) (length (tokensFrom t (nextAt t at))) (tokensFrom t (nextAt t at)) (omega arith)) in
+      let l : length (left m) ≤ length (tokensFrom t (nextAt t at)) = rw p
+      at (import-left (tokAt t at) (length (tokensFrom t (nextAt t at))) (tokensFrom t (nextAt t at)) (omega arith)) in
       rw first (omega arith)
 
   module _ (end : ℕ) (before : List ImportTree) where
     one-read : {x : ℕ} (next : ℕ) → NamedAt t at x → (i : IsImport t at) → i .rest ≡ tokensFrom t next
-        → importsAfter t at end before ≡ join (record { errors = importErrors before (treeAt t x); value = treeAt t x ∷ []; rest = tokensFrom t next }) (importsAfter t next end (treeAt t x ∷ before))
+        → importsAfter t at end before ≡ join (record { errors = importErrors before (treeAt t x); value = treeAt t x ∷ []; rest = tokensFrom t next })
+        (importsAfter t next end (treeAt t x ∷ before))
     one-read next n i e =
         rw (first, n .place, import-read i .is) (rw e at (imports-next end before (tokAt t at) (tokensFrom t (nextAt t at)) kind-is (i .read)))
 
     one-dropped : {n : ℕ} (next : ℕ) → parseImport (tokAt t at) (tokensFrom t (nextAt t at)) ≡ fail n (tokensFrom t next)
-        → importsAfter t at end before ≡ join (record { errors = errorAt end n (tokensFrom t next) ∷ []; value = []; rest = tokensFrom t next }) (importsAfter t next end before)
+        → importsAfter t at end before ≡ join (record { errors = errorAt end n (tokensFrom t next) ∷ []; value = []; rest = tokensFrom t next })
+        (importsAfter t next end before)
     one-dropped next e = rw first (imports-dropped end before (tokAt t at) (tokensFrom t (nextAt t at)) kind-is e)
 
 ended : (end : ℕ) (before : List ImportTree) (ts : List Token) → is kImport (kindAt ts) ≡ false → parseImports (length ts) end before ts ≡ nothing ts
@@ -89,12 +92,15 @@ module _ {t : Bytes} where
   walk-few (read k n i e v h w) = omega (arith, walk-few w, shorter k (i .read), ap length e)
   walk-few (dropped k n e v h w) = omega (arith, walk-few w, shorter k e)
 
-  pub walk-value : {at : ℕ} {whole : Bool} {xs : List ℕ} {past : ℕ} → Imports t at whole xs past → (end : ℕ) (before : List ImportTree) → importsAfter t at end before .value ≡ map (treeAt t) xs
+  pub walk-value : {at : ℕ} {whole : Bool} {xs : List ℕ} {past : ℕ} → Imports t at whole xs past → (end : ℕ) (before : List ImportTree)
+      → importsAfter t at end before .value ≡ map (treeAt t) xs
   walk-value (none {at = at} e) end before = ap (λ r. r .value) (ended end before (tokensFrom t at) e)
-  walk-value (read {next = next} {x = x} k n i e v h w) end before = ap (λ r. r .value) (one-read k end before next n i e) ∙ ap (treeAt t x ∷_) (walk-value w end (treeAt t x ∷ before))
+  walk-value (read {next = next} {x = x} k n i e v h w) end before =
+      ap (λ r. r .value) (one-read k end before next n i e) ∙ ap (treeAt t x ∷_) (walk-value w end (treeAt t x ∷ before))
   walk-value (dropped {next = next} k n e v h w) end before = ap (λ r. r .value) (one-dropped k end before next e) ∙ walk-value w end before
 
-  pub walk-rest : {at : ℕ} {whole : Bool} {xs : List ℕ} {past : ℕ} → Imports t at whole xs past → (end : ℕ) (before : List ImportTree) → importsAfter t at end before .rest ≡ tokensFrom t past
+  pub walk-rest : {at : ℕ} {whole : Bool} {xs : List ℕ} {past : ℕ} → Imports t at whole xs past → (end : ℕ) (before : List ImportTree)
+      → importsAfter t at end before .rest ≡ tokensFrom t past
   walk-rest (none {at = at} e) end before = ap (λ r. r .rest) (ended end before (tokensFrom t at) e)
   walk-rest (read {next = next} {x = x} k n i e v h w) end before = ap (λ r. r .rest) (one-read k end before next n i e) ∙ walk-rest w end (treeAt t x ∷ before)
   walk-rest (dropped {next = next} k n e v h w) end before = ap (λ r. r .rest) (one-dropped k end before next e) ∙ walk-rest w end before

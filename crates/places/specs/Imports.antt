@@ -53,9 +53,11 @@ pub record NamedHere (t : Bytes) (x : ℕ) : Type 0 where
 -- `whole` says that none is.
 pub data Imports (t : Bytes) : ℕ → Bool → List ℕ → ℕ → Type 0 where
   none : {at : ℕ} → is kImport (kindAt (tokensFrom t at)) ≡ false → Imports t at true [] at
-  read : {at next end x : ℕ} {whole : Bool} {xs : List ℕ} → Keyword t at → NamedAt t at x → (i : IsImport t at) → i .rest ≡ tokensFrom t next → Wf t next → at < next
+  read : {at next end x : ℕ} {whole : Bool} {xs : List ℕ} → Keyword t at → NamedAt t at x → (i : IsImport t at) → i .rest ≡ tokensFrom t next → Wf t next
+      → at < next
       → Imports t next whole xs end → Imports t at whole (x ∷ xs) end
-  dropped : {at next end : ℕ} {whole : Bool} {xs : List ℕ} → Keyword t at → (n : ℕ) → parseImport (tokAt t at) (tokensFrom t (nextAt t at)) ≡ fail n (tokensFrom t next)
+  dropped : {at next end : ℕ} {whole : Bool} {xs : List ℕ} → Keyword t at → (n : ℕ)
+      → parseImport (tokAt t at) (tokensFrom t (nextAt t at)) ≡ fail n (tokensFrom t next)
       → Wf t next → at < next → Imports t next whole xs end → Imports t at false xs end
 
 unfoldable pub lacksName : Bytes → ℕ → Bool

@@ -72,7 +72,12 @@ lines-short : (n : ℕ) (list : Bytes) (at : ℕ) → AllBytes list → at + 14 
 unfolding errorLines
 lines-short zero list at a h = omega arith
 lines-short (suc n) list at a h =
-    omega (arith, length-append (errorLine list at) (errorLines n list (at + 14)), line-short list at a (omega arith), lines-short n list (at + 14) a (omega arith))
+    omega (
+      arith,
+      length-append (errorLine list at) (errorLines n list (at + 14)),
+      line-short list at a (omega arith),
+      lines-short n list (at + 14) a (omega arith),
+    )
 
 all-append : (a b : Bytes) → AllBytes a → AllBytes b → AllBytes (a ++ b)
 all-append [] b h k = k
@@ -183,7 +188,8 @@ fitted-short room a h = go (leb (length (bytesOf a)) room)
     go true = h
     go false = omega (arith, refusal-short 8 0 (omega arith) (omega arith))
 
-errors-printed : (ts : List Token) (es : List Error) → length ts ≤ 4096 → es ≡ parseSchema ts .errors → length (errorLines (length (errorsBytes es) / 14) (errorsBytes es) 0) ≤ 147456
+errors-printed : (ts : List Token) (es : List Error) → length ts ≤ 4096 → es ≡ parseSchema ts .errors
+    → length (errorLines (length (errorsBytes es) / 14) (errorsBytes es) 0) ≤ 147456
 errors-printed ts es h e =
     let n = length (errorsBytes es) / 14 in
     let s : length (errorsBytes es) ≤ 57344 = rw e (errors-short ts h) in

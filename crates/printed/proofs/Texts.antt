@@ -69,7 +69,8 @@ module _ {t : Bytes} (out : Bytes) {o′ : Bytes} {r : Written} (l : 65536 ≤ l
   lent : length (take 65536 out) ≡ 65536
   lent = omega (arith, length-take 65536 out)
 
-  pub refused-line : {number offset : ℕ} {out′ : Bytes} {to : ℕ} → r ≡ Refused number offset → Wrote (o′ ++ drop 65536 out) 0 (refusalLine number offset) out′ to
+  pub refused-line : {number offset : ℕ} {out′ : Bytes} {to : ℕ} → r ≡ Refused number offset
+      → Wrote (o′ ++ drop 65536 out) 0 (refusalLine number offset) out′ to
       → Wrote out 0 (schemaPrinted t) out′ to
   refused-line e p =
       let q = writer-told lent w .line e in

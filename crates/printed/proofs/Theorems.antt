@@ -76,7 +76,17 @@ lines-are (e ∷ es) a at h (w, ws) =
     let rest = errorsBytes es in
     let next : errorLines (length es) (a ++ x) (at + 14) ≡ errorsText es =
     rw append-assoc at (lines-are es (a ++ errorBytes e) (at + 14) (omega (arith, length-append a (errorBytes e), error-length e)) ws) in
-    rw (after 2 2 a x at h, after 4 4 a x at h, after 4 8 a x at h, after 2 12 a x at h, number-is e rest w, start-is e rest w, end-is e rest w, found-is e rest w, next)
+    rw (
+      after 2 2 a x at h,
+      after 4 4 a x at h,
+      after 4 8 a x at h,
+      after 2 12 a x at h,
+      number-is e rest w,
+      start-is e rest w,
+      end-is e rest w,
+      found-is e rest w,
+      next,
+    )
 
 -- the lines of an error list are those of its errors
 pub lines-errors : (es : List Error) → All Narrow es → errorLines (length (errorsBytes es) / 14) (errorsBytes es) 0 ≡ errorsText es
@@ -118,14 +128,22 @@ module _ (t : Bytes) {ts : List Token} (d : decode t ≡ tokens ts) where
       rw (table-answer t 65536 ts d (rw p l), p, le-ltb 131072 (length (encodeSchema s)) (omega arith), b, le-leb (length (textOf s)) 65536 h)
 
   -- What reading gives, its table gives back: so of a schema the text is printed where both answers fit,
-  pub printed-text : {s : Schema} → AllBytes t → parse ts ≡ Outcome.schema s → length (encodeSchema s) ≤ 65536 → length (textOf s) ≤ 65536 → printed t ≡ textOf s
+  pub printed-text : {s : Schema} → AllBytes t → parse ts ≡ Outcome.schema s → length (encodeSchema s) ≤ 65536 → length (textOf s) ≤ 65536
+      → printed t ≡ textOf s
   printed-text {s} a p l h = printed-schema p l (schema-back t ts s a d p) h
 
   -- and R8 where the text doesn't,
-  pub printed-long-text : {s : Schema} → AllBytes t → parse ts ≡ Outcome.schema s → length (encodeSchema s) ≤ 65536 → 65536 < length (textOf s) → printed t ≡ refusalLine 8 0
+  pub printed-long-text : {s : Schema} → AllBytes t → parse ts ≡ Outcome.schema s → length (encodeSchema s) ≤ 65536 → 65536 < length (textOf s)
+      → printed t ≡ refusalLine 8 0
   unfolding printed schemaPrinted pick
   printed-long-text {s} a p l h =
-      rw (table-answer t 65536 ts d (rw p l), p, le-ltb 131072 (length (encodeSchema s)) (omega arith), schema-back t ts s a d p, lt-leb (length (textOf s)) 65536 h)
+      rw (
+        table-answer t 65536 ts d (rw p l),
+        p,
+        le-ltb 131072 (length (encodeSchema s)) (omega arith),
+        schema-back t ts s a d p,
+        lt-leb (length (textOf s)) 65536 h,
+      )
 
   -- or the schema table doesn't.
   pub printed-long-table : {s : Schema} → parse ts ≡ Outcome.schema s → 65536 < length (encodeSchema s) → printed t ≡ refusalLine 8 0

@@ -55,7 +55,8 @@ module _ (t o : Bytes) {ts : List Token} (d : decode t ≡ tokens ts) where
   schema-written z e (b, n) = let a = fits t o d (parse-schema ts z) e in record { answer = rw (a, n); buffer = rw a b }
 
   pub errors-written : {o′ : Bytes} {r : ℕ} {es : List Error} → parse ts ≡ Outcome.errors es →
-      leb (length (errorsBytes es)) (length o) ≡ true → (o′ ≡ errorsBytes es ++ drop (length (errorsBytes es)) o) × (r ≡ length (errorsBytes es)) → Answers t o o′ (Errors r)
+      leb (length (errorsBytes es)) (length o) ≡ true → (o′ ≡ errorsBytes es ++ drop (length (errorsBytes es)) o) × (r ≡ length (errorsBytes es))
+      → Answers t o o′ (Errors r)
   errors-written p e (b, n) = let a = fits t o d p e in record { answer = rw (a, n); buffer = rw a b }
 
 -- no bytes are no tokens, and these an empty schema, whose table is empty
@@ -89,17 +90,23 @@ pub errors-fit : (ts : List Token) (n : ℕ) (o : Bytes) → length ts ≤ n →
 errors-fit ts n o h k = omega (arith, errors-length (parseSchema ts .errors), errors-at-most-tokens ts)
 
 -- bytes that fit stand in front of what was there
-pub landed : (o bs : Bytes) {o′ : Bytes} {r : ℕ} → length o < 18446744073709551615 → length bs ≤ length o → Wrote o 0 bs o′ r → (o′ ≡ bs ++ drop (length bs) o) × (r ≡ length bs)
+pub landed : (o bs : Bytes) {o′ : Bytes} {r : ℕ} → length o < 18446744073709551615 → length bs ≤ length o → Wrote o 0 bs o′ r
+    → (o′ ≡ bs ++ drop (length bs) o) × (r ≡ length bs)
 landed o bs k f w =
     let a = adv-is bs 0 (omega arith) in
     (w .bytes ∙ over-fits bs o 0 (omega arith) (omega arith) ∙ rw zero-add, w .place ∙ omega arith)
 
 -- what collecting and emitting ask, of lists that are as long as those that were lent
 module _ {t : Bytes} {end : ℕ} {imports : List ℕ} {order : Ordered} {items spare : List ℕ} (p : Ready t end imports order items spare) where
-  pub judgeable : {items′ spare′ : List ℕ} → length items′ ≡ length items → length spare′ ≡ length spare → (Judgeable t end items′ spare′) × (Orders t imports order)
-  judgeable x y = (record { room = record { wf = p .checked .wf; places = omega (arith, p .list); work = omega (arith, p .work) }; last = p .checked .last }, p .orders)
+  pub judgeable : {items′ spare′ : List ℕ} → length items′ ≡ length items → length spare′ ≡ length spare
+      → (Judgeable t end items′ spare′) × (Orders t imports order)
+  judgeable x y = (
+    record { room = record { wf = p .checked .wf; places = omega (arith, p .list); work = omega (arith, p .work) }; last = p .checked .last },
+    p .orders,
+  )
 
-  pub clean : {n : ℕ} {items′ spare′ : List ℕ} → n ≡ length (parseSchema (tokensFrom t 0) .errors) → n ≡ 0 → length items′ ≡ length items → length spare′ ≡ length spare
+  pub clean : {n : ℕ} {items′ spare′ : List ℕ} → n ≡ length (parseSchema (tokensFrom t 0) .errors) → n ≡ 0 → length items′ ≡ length items
+      → length spare′ ≡ length spare
       → Clean t imports order items′ spare′
   clean e z x y = record {
     decodes = p .checked .decodes;

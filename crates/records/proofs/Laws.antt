@@ -34,12 +34,14 @@ use Rattle.records.specs.Here.{CommentHere, Whole, Paragraphs}
 
 -- a record is its head, then its payload
 pub put-record : (kind start end : ℕ) {o : Bytes} {at size : ℕ} {payload o₁ : Bytes} {r₁ : ℕ} {o₂ : Bytes} {r₂ : ℕ}
-    → Wrote o at (headBytes size kind start end) o₁ r₁ → Wrote o₁ r₁ payload o₂ r₂ → size ≡ 12 + length payload → Wrote o at (recordBytes kind start end payload) o₂ r₂
+    → Wrote o at (headBytes size kind start end) o₁ r₁ → Wrote o₁ r₁ payload o₂ r₂ → size ≡ 12 + length payload
+    → Wrote o at (recordBytes kind start end payload) o₂ r₂
 unfolding recordBytes
 put-record kind start end p q e = parts p q (rw e)
 
 -- what is left to write is written
-pub rest-last : {o : Bytes} {at : ℕ} {bs o₁ : Bytes} {r : ℕ} {o₀ : Bytes} {at₀ : ℕ} {all : Bytes} → Wrote o at bs o₁ r → Rest o at bs o₀ at₀ all → Wrote o₀ at₀ all o₁ r
+pub rest-last : {o : Bytes} {at : ℕ} {bs o₁ : Bytes} {r : ℕ} {o₀ : Bytes} {at₀ : ℕ} {all : Bytes} → Wrote o at bs o₁ r → Rest o at bs o₀ at₀ all
+    → Wrote o₀ at₀ all o₁ r
 rest-last w q = record { bytes = w .bytes ∙ q .bytes; place = w .place ∙ q .place }
 
 -- the bytes of a slice
@@ -94,9 +96,15 @@ described-length name w = simp (length-append, leBytes-length) (rw (w .again) (o
 pub field-payload : (rule n : ℕ) (name rest : Bytes) → (rule ∷ []) ++ (leBytes 8 n ++ (name ++ rest)) ≡ rule ∷ leBytes 8 n ++ name ++ rest
 field-payload rule n name rest = ap (rule ∷_) (sym (append-assoc (leBytes 8 n) name rest))
 
-pub field-length : (rule n : ℕ) (name : Bytes) {p : Bytes} → Whole p → length (rule ∷ leBytes 8 n ++ sized name ++ counted (paragraphsOf p)) ≡ 13 + length name + length p
+pub field-length : (rule n : ℕ) (name : Bytes) {p : Bytes} → Whole p
+    → length (rule ∷ leBytes 8 n ++ sized name ++ counted (paragraphsOf p)) ≡ 13 + length name + length p
 field-length rule n name {p} w =
-    rw (append-assoc (leBytes 8 n) (sized name) (counted (paragraphsOf p)), length-append (leBytes 8 n) (sized name ++ counted (paragraphsOf p)), leBytes-length 8 n, described-length name w)
+    rw (
+      append-assoc (leBytes 8 n) (sized name) (counted (paragraphsOf p)),
+      length-append (leBytes 8 n) (sized name ++ counted (paragraphsOf p)),
+      leBytes-length 8 n,
+      described-length name w,
+    )
     (omega arith)
 
 -- the schema's comment, by its bytes
@@ -110,7 +118,13 @@ module _ {comment : Option Token} {p : Bytes} (w : Paragraphs comment p) where
     where
       go : (ps : List Bytes) → length (paragraphBytes ps) ≡ 0 → encodeComment ps ≡ []
       go [] z = refl
-      go (q ∷ ps) z = absurd (omega (arith, z, length-append (leBytes 2 (length q)) q, length-append (leBytes 2 (length q) ++ q) (paragraphBytes ps), leBytes-length 2 (length q)))
+      go (q ∷ ps) z = absurd (omega (
+        arith,
+        z,
+        length-append (leBytes 2 (length q)) q,
+        length-append (leBytes 2 (length q) ++ q) (paragraphBytes ps),
+        leBytes-length 2 (length q),
+      ))
 
   pub opening : (length p ≡ 0 → ⊥) → recordBytes sComment 0 0 p ≡ encodeComment (commentOf comment)
   unfolding paragraphBytes
@@ -122,11 +136,13 @@ module _ {comment : Option Token} {p : Bytes} (w : Paragraphs comment p) where
 
 -- Types.
 module _ (t : Bytes) (at : ℕ) where
-  pub single-is : tokAt t at .kind ≡ kIdentifier → encodeType (typeOf (baseAt t at false)) ≡ recordBytes sCustom (tokAt t at .start) (tokAt t at .end) (sized [] ++ tokAt t at .payload)
+  pub single-is : tokAt t at .kind ≡ kIdentifier
+      → encodeType (typeOf (baseAt t at false)) ≡ recordBytes sCustom (tokAt t at .start) (tokAt t at .end) (sized [] ++ tokAt t at .payload)
   unfolding pick
   single-is e = rw (eq-eqb _ _ e)
 
-  pub plain-is : (tokAt t at .kind ≡ kIdentifier → ⊥) → encodeType (typeOf (baseAt t at false)) ≡ recordBytes sPlain (tokAt t at .start) (tokAt t at .end) (leBytes 2 (tokAt t at .kind))
+  pub plain-is : (tokAt t at .kind ≡ kIdentifier → ⊥)
+      → encodeType (typeOf (baseAt t at false)) ≡ recordBytes sPlain (tokAt t at .start) (tokAt t at .end) (leBytes 2 (tokAt t at .kind))
   unfolding pick
   plain-is e = rw (ne-eqb _ _ e)
 
@@ -141,7 +157,8 @@ module _ (t : Bytes) (close : ℕ) (base : TypeTree) where
   outermost (suc d) opens h b = rw sub-one b
 
   array-is : (left opens : ℕ) → 0 < left → encodeType (typeOf (arrayAt t close base left opens))
-      ≡ headBytes 12 sArray (tokAt t opens .start) (tokAt t (close + 12 * (left - 1)) .end) ++ encodeType (typeOf (arrayAt t close base (left - 1) (nextAt t opens)))
+      ≡ headBytes 12 sArray (tokAt t opens .start) (tokAt t (close + 12 * (left - 1)) .end)
+      ++ encodeType (typeOf (arrayAt t close base (left - 1) (nextAt t opens)))
   unfolding recordBytes
   array-is zero opens h = absurd (omega arith)
   array-is (suc d) opens h = rw (sub-one, append-nil)
@@ -170,5 +187,6 @@ module _ {t : Bytes} {p : TypePlaces} {o₀ : Bytes} {a₀ : ℕ} {o : Bytes} {a
           size = wrote-length w ∙ n .size;
         }
 
-  pub innermost : left ≤ 0 → {o′ : Bytes} {r : ℕ} → Wrote o a (encodeType (typeOf (baseAt t (p .base) (p .dotted)))) o′ r → Wrote o₀ a₀ (encodeType (typeOf (typeAt t p))) o′ r
+  pub innermost : left ≤ 0 → {o′ : Bytes} {r : ℕ} → Wrote o a (encodeType (typeOf (baseAt t (p .base) (p .dotted)))) o′ r
+      → Wrote o₀ a₀ (encodeType (typeOf (typeAt t p))) o′ r
   innermost h w = let z : left ≡ 0 = omega arith in rest-last w (rw z at (n .rest))

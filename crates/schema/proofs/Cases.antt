@@ -18,7 +18,8 @@ use Rattle.identifier.specs.Name.{isName}
 use Rattle.identifier.specs.Byte.{lowerOf}
 use Rattle.schema.specs.Ast.{Range, TypeVariant, Rule, DeclarationVariant, Schema}
 use Rattle.schema.specs.Encode.{encodeSchema}
-use Rattle.schema.specs.Payload.{isSized, isNamed, isImport, isCounted, isDeclaration, isField, indicesOf, isDeleted, isPlainType, isCustom, isTypePayload, isPayload}
+use Rattle.schema.specs.Payload.{isSized, isNamed, isImport, isCounted, isDeclaration, isField, indicesOf}
+use Rattle.schema.specs.Payload.{isDeleted, isPlainType, isCustom, isTypePayload, isPayload}
 use Rattle.schema.specs.Table.{recordsOf, isFramed, mayFollow, isLater, rowAfter, isRight, isNext, isSchemaTable}
 use Rattle.schema.specs.Decode.{decodeSchema}
 
@@ -81,7 +82,9 @@ everything =
     }
 
 comes-back : decodeSchema (encodeSchema everything) ≡ some everything
-unfolding encodeSchema recordBytes headBytes paragraphBytes leBytes decodeSchema pick isSchemaTable isFramed recordsOf isNext isRight mayFollow isLater rowAfter isPayload isTypePayload isName isSized isNamed isImport isCounted isDeclaration isField indicesOf isDeleted isPlainType isCustom tokenOf isWhole isComment isPath isParagraph areParagraphs paragraphOf afterParagraph paragraphsOf leNumber leAt isBefore nameOrder snakeOf lowerOf
+unfolding encodeSchema recordBytes headBytes paragraphBytes leBytes decodeSchema pick isSchemaTable isFramed recordsOf isNext isRight mayFollow isLater
+    rowAfter isPayload isTypePayload isName isSized isNamed isImport isCounted isDeclaration isField indicesOf isDeleted isPlainType isCustom tokenOf isWhole
+    isComment isPath isParagraph areParagraphs paragraphOf afterParagraph paragraphsOf leNumber leAt isBefore nameOrder snakeOf lowerOf
 comes-back = refl
 
 abbrev one : ℕ → Bytes → Bytes
@@ -115,7 +118,9 @@ tables : map isSchemaTable
     ∷ (struct ++ field ++ arrays 64 ++ one 106 (leBytes 8 1 ++ leBytes 8 2))
     ∷ [])
     ≡ true ∷ true ∷ true ∷ true ∷ true ∷ []
-unfolding recordBytes headBytes paragraphBytes leBytes pick isSchemaTable isFramed recordsOf isNext isRight mayFollow isLater rowAfter isPayload isTypePayload isName isSized isNamed isImport isCounted isDeclaration isField indicesOf isDeleted isPlainType isCustom tokenOf isWhole isComment isPath isParagraph areParagraphs paragraphOf afterParagraph paragraphsOf leNumber leAt isBefore nameOrder snakeOf lowerOf
+unfolding recordBytes headBytes paragraphBytes leBytes pick isSchemaTable isFramed recordsOf isNext isRight mayFollow isLater rowAfter isPayload isTypePayload
+    isName isSized isNamed isImport isCounted isDeclaration isField indicesOf isDeleted isPlainType isCustom tokenOf isWhole isComment isPath isParagraph
+    areParagraphs paragraphOf afterParagraph paragraphsOf leNumber leAt isBefore nameOrder snakeOf lowerOf
 tables = refl
 
 no-tables : map isSchemaTable
@@ -148,5 +153,7 @@ no-tables : map isSchemaTable
     ∷ (struct ++ one 106 (leBytes 8 1) ++ field ++ unit)
     ∷ [])
     ≡ replicate 27 false
-unfolding recordBytes headBytes paragraphBytes leBytes pick isSchemaTable isFramed recordsOf isNext isRight mayFollow isLater rowAfter isPayload isTypePayload isName isSized isNamed isImport isCounted isDeclaration isField indicesOf isDeleted isPlainType isCustom tokenOf isWhole isComment isPath isParagraph areParagraphs paragraphOf afterParagraph paragraphsOf leNumber leAt isBefore nameOrder snakeOf lowerOf
+unfolding recordBytes headBytes paragraphBytes leBytes pick isSchemaTable isFramed recordsOf isNext isRight mayFollow isLater rowAfter isPayload isTypePayload
+    isName isSized isNamed isImport isCounted isDeclaration isField indicesOf isDeleted isPlainType isCustom tokenOf isWhole isComment isPath isParagraph
+    areParagraphs paragraphOf afterParagraph paragraphsOf leNumber leAt isBefore nameOrder snakeOf lowerOf
 no-tables = refl

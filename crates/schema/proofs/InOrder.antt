@@ -14,7 +14,8 @@ use Rattle.token.specs.Token.{Token}
 use Rattle.schema.specs.Ast.{Range, TypeVariant, Field, Import, DeclarationVariant, Declaration, Schema}
 use Rattle.schema.specs.Kind.{sImport, sStruct, sChoice, sField, sDeleted, sArray, sPlain, sCustom}
 use Rattle.schema.specs.Order.{isChainAfter, isChain}
-use Rattle.schema.specs.Limits.{Each, RangeWithin, CommentWithin, ImportWithin, TypeWithin, nesting, FieldWithin, DeletedWithin, DeclarationWithin, isEarlier, Within}
+use Rattle.schema.specs.Limits.{Each, RangeWithin, CommentWithin, ImportWithin, TypeWithin, nesting}
+use Rattle.schema.specs.Limits.{FieldWithin, DeletedWithin, DeclarationWithin, isEarlier, Within}
 use Rattle.schema.specs.Encode.{nowhere, declarationKind, declarationPayload, importPayload}
 use Rattle.schema.specs.Payload.{nameOf, isTypePayload, isPayload}
 use Rattle.schema.specs.Table.{mayFollow, isLater, rowAfter, isRight, isNext, areNext, outset}
@@ -45,7 +46,8 @@ pub record Next (last : Token) (row : ℕ) (rs : List Token) : Type 0 where
 
 -- one more record
 next : {last : Token} {row kind : ℕ} {r : Range} {p : Bytes} {rs : List Token} → mayFollow (last .kind) kind ≡ true → isPayload kind p ≡ true
-    → isLater (last .kind) (last .payload) kind p ≡ true → rowAfter row kind ≤ 64 → Next (made kind r p) (rowAfter row kind) rs → Next last row (made kind r p ∷ rs)
+    → isLater (last .kind) (last .payload) kind p ≡ true → rowAfter row kind ≤ 64 → Next (made kind r p) (rowAfter row kind) rs
+    → Next last row (made kind r p ∷ rs)
 unfolding isNext isRight
 next a b c d e = record { are = rw (a, b, le-leb _ 64 d, c, e .are) }
 
@@ -87,7 +89,8 @@ declarations-next (d ∷ ds) last a w = go (d .variant) (λ last a. declarations
     more rs = fieldRecords (d .fields) (deletedRecords (d .deleted) rs)
 
     body : (rs : List Token) (last : Token) → Inside (last .kind) → ((last : Token) → Outside (last .kind) → Next last 0 rs) → Next last 0 (more rs)
-    body rs last i k = fields-next (d .fields) last (deletedRecords (d .deleted) rs) i (w .0 .fields) (λ last i. deleted-next (d .deleted) last rs i (w .0 .deleted) k)
+    body rs last i k = fields-next (d .fields) last (deletedRecords (d .deleted) rs) i (w .0 .fields)
+        (λ last i. deleted-next (d .deleted) last rs i (w .0 .deleted) k)
 
     go : (v : DeclarationVariant) → ((last : Token) → Outside (last .kind) → Next last 0 (declarationRecords ds))
         → Next last 0 (made (declarationKind v) (d .range) (declarationPayload d) ∷ more (declarationRecords ds))

@@ -89,12 +89,14 @@ module _ {t : Bytes} {at last kind row : ℕ} {r : Bool} (j : Judging t at last 
       pub judged-early : isLater kind (payloadAt t last) (kindAt t at) (payloadAt t at) ≡ false → false ≡ r
       judged-early f = sym (and-false (isFramed (drop (nextAt t at) t))) ∙ rw (e, f) at judged-step
 
-      pub judged-next : isLater kind (payloadAt t last) (kindAt t at) (payloadAt t at) ≡ true → Judging t (nextAt t at) at (kindAt t at) (rowAfter row (kindAt t at)) r
+      pub judged-next : isLater kind (payloadAt t last) (kindAt t at) (payloadAt t at) ≡ true
+          → Judging t (nextAt t at) at (kindAt t at) (rowAfter row (kindAt t at)) r
       unfolding isRight
       judged-next f =
           record {
             inside = w .tail;
-            shallow = leb-true _ 64 (and-eq-true-iff (isPayload (kindAt t at) (payloadAt t at)) _ .0 (and-eq-true-iff (mayFollow kind (kindAt t at)) _ .0 e .1) .1);
+            shallow = leb-true _ 64 (and-eq-true-iff (isPayload (kindAt t at) (payloadAt t at)) _ .0
+                (and-eq-true-iff (mayFollow kind (kindAt t at)) _ .0 e .1) .1);
             whole = λ _. w;
             sized = import-sized kind row (kindAt t at) (payloadAt t at) e;
             before = tokenAt t at;

@@ -186,7 +186,15 @@ plain-is kind e = leAt-leBytes 2 kind [] [] 0 refl (go (ltb kind 65536) refl)
     go false h =
         let l = ltb-false kind 65536 h in
         let z : _≡_ {A = Bool} false true =
-        rw (ne-eqb kind 3 (λ q. omega arith), ne-eqb kind 4 (λ q. omega arith), ne-eqb kind 11 (λ q. omega arith), ne-eqb kind 21 (λ q. omega arith), ne-eqb kind 22 (λ q. omega arith), ne-eqb kind 24 (λ q. omega arith), ne-eqb kind 25 (λ q. omega arith)) at e in
+        rw (
+          ne-eqb kind 3 (λ q. omega arith),
+          ne-eqb kind 4 (λ q. omega arith),
+          ne-eqb kind 11 (λ q. omega arith),
+          ne-eqb kind 21 (λ q. omega arith),
+          ne-eqb kind 22 (λ q. omega arith),
+          ne-eqb kind 24 (λ q. omega arith),
+          ne-eqb kind 25 (λ q. omega arith),
+        ) at e in
         let y : _≡_ {A = ℕ} 0 1 = cc in
         absurd (omega arith)
 

@@ -18,7 +18,8 @@ use Rattle.token.specs.Kind.{isPlain}
 use Rattle.token.specs.Payload.{isPath, isComment, areParagraphs, paragraphsOf, paragraphBytes}
 use Rattle.schema.specs.Limits.{CommentWithin, OptionWithin, DeletedWithin}
 use Rattle.schema.specs.Encode.{sized, counted, importPart, ruleNumber, indices}
-use Rattle.schema.specs.Payload.{isSized, isNamed, nameOf, afterName, isImport, isCounted, isDeclaration, isField, indicesOf, isDeleted, isPlainType, isCustom}
+use Rattle.schema.specs.Payload.{isSized, isNamed, nameOf, afterName, isImport, isCounted}
+use Rattle.schema.specs.Payload.{isDeclaration, isField, indicesOf, isDeleted, isPlainType, isCustom}
 use Rattle.schema.specs.Decode.{commentOf, optional, ruleOf}
 use Rattle.token.proofs.Paragraphs.{all-drop, paragraphs-good, paragraphs-again}
 use Rattle.token.proofs.Encode.{bytes-at}
@@ -105,7 +106,12 @@ field-read (b ∷ q) a e =
       comment = d .comment;
       index = leAt-small 8 p 1 a l;
       back =
-          rw (rule-back b (leb-true b 2 (r .0)), bytes-at 8 1 p a l, append-assoc (take 8 q) (sized (nameOf (drop 8 q))) (counted (commentOf (afterName (drop 8 q)))), d .back)
+          rw (
+            rule-back b (leb-true b 2 (r .0)),
+            bytes-at 8 1 p a l,
+            append-assoc (take 8 q) (sized (nameOf (drop 8 q))) (counted (commentOf (afterName (drop 8 q)))),
+            d .back,
+          )
           (ap (λ (bs : Bytes). b ∷ bs) (take-append-drop 8 q));
     }
 

@@ -14,7 +14,8 @@ use Rattle.schema.specs.Kind.{sImport, sStruct, sChoice, sField, sArray,
 use Rattle.schema.specs.Limits.{Each, CommentWithin, ImportWithin, TypeWithin, FieldWithin, DeclarationWithin, Within}
 use Rattle.schema.specs.Encode.{nowhere, counted, declarationKind, declarationPayload, fieldPayload, importPayload}
 use Rattle.schema.specs.Payload.{nameOf, afterName}
-use Rattle.schema.specs.Decode.{openingOf, commentOf, importOf, importsOf, typeOf, fieldOf, fieldsOf, deletedOf, variantOf, declarationOf, declarationsOf, schemaOf}
+use Rattle.schema.specs.Decode.{openingOf, commentOf, importOf, importsOf, typeOf, fieldOf, fieldsOf}
+use Rattle.schema.specs.Decode.{deletedOf, variantOf, declarationOf, declarationsOf, schemaOf}
 use Rattle.schema.proofs.Parts.{IsIndex, indices-written}
 use Rattle.token.proofs.Paragraphs.{paragraphs-found}
 use Rattle.schema.proofs.Payloads.{name-is, after-is, comment-is, body-is, index-is, rule-is, plain-is, import-part, custom-name}
@@ -27,7 +28,8 @@ type-is (TypeVariant.custom r import name) rs w = rw (import-part import name (w
 
 -- what passes over the records of a type passes over the type
 abbrev Passes : {A : Type 0} → (List Token → A) → Type 0
-Passes g = (r : Range) (p : Bytes) (rs : List Token) → (g (made sArray r p ∷ rs) ≡ g rs) × (g (made sPlain r p ∷ rs) ≡ g rs) × (g (made sCustom r p ∷ rs) ≡ g rs)
+Passes g = (r : Range) (p : Bytes) (rs : List Token)
+    → (g (made sArray r p ∷ rs) ≡ g rs) × (g (made sPlain r p ∷ rs) ≡ g rs) × (g (made sCustom r p ∷ rs) ≡ g rs)
 
 past : {A : Type 0} (g : List Token → A) → Passes g → (y : TypeVariant) (rs : List Token) → g (typeRecords y rs) ≡ g rs
 past g h (TypeVariant.array r inner) rs = h r _ _ .0 ∙ past g h inner rs
@@ -82,7 +84,8 @@ stop : {A : Type 0} (g : List Token → List A) → Stops g → (ds : List Decla
 stop g h [] = h nowhere [] [] .0
 stop g h (d ∷ ds) = go (d .variant)
   where
-    go : (v : DeclarationVariant) → g (made (declarationKind v) (d .range) (declarationPayload d) ∷ fieldRecords (d .fields) (deletedRecords (d .deleted) (declarationRecords ds))) ≡ []
+    go : (v : DeclarationVariant)
+        → g (made (declarationKind v) (d .range) (declarationPayload d) ∷ fieldRecords (d .fields) (deletedRecords (d .deleted) (declarationRecords ds))) ≡ []
     go DeclarationVariant.struct = h _ _ _ .1
     go DeclarationVariant.choice = h _ _ _ .2
 
@@ -98,7 +101,8 @@ declarations-past-deleted : (ns : List ℕ) (rs : List Token) → declarationsOf
 declarations-past-deleted [] rs = refl
 declarations-past-deleted (n ∷ ns) rs = refl
 
-declaration-is : (d : Declaration) → DeclarationWithin d → declarationOf (made (declarationKind (d .variant)) (d .range) (declarationPayload d)) (d .fields) (d .deleted) ≡ d
+declaration-is : (d : Declaration) → DeclarationWithin d
+    → declarationOf (made (declarationKind (d .variant)) (d .range) (declarationPayload d)) (d .fields) (d .deleted) ≡ d
 declaration-is d w = λ i. record {
   range = d .range;
   comment = comment i;
@@ -119,7 +123,8 @@ keyword : (v : DeclarationVariant) → (eqb (declarationKind v) sStruct || eqb (
 keyword DeclarationVariant.struct = refl
 keyword DeclarationVariant.choice = refl
 
-declarations-step : (r : Token) (rs : List Token) → (eqb (r .kind) sStruct || eqb (r .kind) sChoice) ≡ true → declarationsOf (r ∷ rs) ≡ declarationOf r (fieldsOf rs) (deletedOf rs) ∷ declarationsOf rs
+declarations-step : (r : Token) (rs : List Token) → (eqb (r .kind) sStruct || eqb (r .kind) sChoice) ≡ true
+    → declarationsOf (r ∷ rs) ≡ declarationOf r (fieldsOf rs) (deletedOf rs) ∷ declarationsOf rs
 declarations-step r rs e = rw (e, declarationsOf)
 
 declarations-are : (ds : List Declaration) → Each DeclarationWithin ds → declarationsOf (declarationRecords ds) ≡ ds

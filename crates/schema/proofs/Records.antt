@@ -42,7 +42,8 @@ drop-suc (suc n) b bs h = rw sub-one
 -- at the front stands a whole record, and then the others
 pub records-step : (bs : Bytes) → Whole bs → recordsOf bs ≡ tokenOf bs ∷ recordsOf (drop (sizeOf bs) bs)
 records-step [] w = absurd (omega arith)
-records-step (b ∷ bs) w = let h = w .head in rw (drop-suc (sizeOf (b ∷ bs)) b bs (omega arith)) (unfold recordsOf in rw (records-after (sizeOf (b ∷ bs) - 1) bs))
+records-step (b ∷ bs) w = let h = w .head in
+    rw (drop-suc (sizeOf (b ∷ bs)) b bs (omega arith)) (unfold recordsOf in rw (records-after (sizeOf (b ∷ bs) - 1) bs))
 
 pub framed-step : (bs : Bytes) → Whole bs → isFramed bs ≡ isFramed (drop (sizeOf bs) bs)
 framed-step [] w = absurd (omega arith)

@@ -29,7 +29,12 @@ module _ (t : Bytes) (w : Whole t) (a : AllBytes t) where
       let k = w .tail in
       let s = leAt-small 2 t 0 a (omega arith) in
       record {
-        fits = record { kind = leAt-small 2 t 2 a (omega arith); start = leAt-small 4 t 4 a (omega arith); end = leAt-small 4 t 8 a (omega arith); size = omega arith };
+        fits = record {
+          kind = leAt-small 2 t 2 a (omega arith);
+          start = leAt-small 4 t 4 a (omega arith);
+          end = leAt-small 4 t 8 a (omega arith);
+          size = omega arith;
+        };
         bytes = all-take (sizeOf t - 12) (drop 12 t) (all-drop 12 t a);
       }
 

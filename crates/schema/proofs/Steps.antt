@@ -16,9 +16,11 @@ use Rattle.schema.specs.Ast.{TypeVariant}
 use Rattle.schema.specs.Kind.{sComment, sImport, sStruct, sField, sDeleted, sArray, sPlain, sCustom}
 use Rattle.schema.specs.Limits.{nesting}
 use Rattle.schema.specs.Encode.{declarationKind}
-use Rattle.schema.specs.Payload.{nameOf, afterName, indicesOf, isImport, isDeclaration, isField, isDeleted, isPlainType, isCustom, isTypePayload, isPayload}
+use Rattle.schema.specs.Payload.{nameOf, afterName, indicesOf, isImport, isDeclaration, isField}
+use Rattle.schema.specs.Payload.{isDeleted, isPlainType, isCustom, isTypePayload, isPayload}
 use Rattle.schema.specs.Table.{mayFollow, isOutside, isImporting, isInside, isType, isLater, rowAfter, isRight, isNext, areNext}
-use Rattle.schema.specs.Decode.{rangeOf, openingOf, importOf, importsOf, optional, typeOf, fieldOf, fieldsOf, deletedOf, variantOf, declarationOf, declarationsOf, settled}
+use Rattle.schema.specs.Decode.{rangeOf, openingOf, importOf, importsOf, optional, typeOf, fieldOf}
+use Rattle.schema.specs.Decode.{fieldsOf, deletedOf, variantOf, declarationOf, declarationsOf, settled}
 use Rattle.schema.proofs.Written.{made}
 
 pub never : {A : Type 0} → _≡_ {A = Bool} false true → A
@@ -111,11 +113,13 @@ module _ (rs : List Token) where
 
   pub at-comment : (r : Token) → r .kind ≡ sComment → Payload r → AtComment r rs
   unfolding isPayload mayFollow pick
-  at-comment r e = at-kind (λ r. Payload r → AtComment r rs) r e (λ p. record { rule = p; after = λ k. refl; opening = refl; imports = refl; declarations = refl })
+  at-comment r e = at-kind (λ r. Payload r → AtComment r rs) r e
+      (λ p. record { rule = p; after = λ k. refl; opening = refl; imports = refl; declarations = refl })
 
   pub at-import : (r : Token) → r .kind ≡ sImport → Payload r → AtImport r rs
   unfolding isPayload mayFollow pick
-  at-import r e = at-kind (λ r. Payload r → AtImport r rs) r e (λ p. record { rule = p; after = λ k. refl; opening = refl; imports = refl; declarations = refl })
+  at-import r e = at-kind (λ r. Payload r → AtImport r rs) r e
+      (λ p. record { rule = p; after = λ k. refl; opening = refl; imports = refl; declarations = refl })
 
   -- where a declaration begins, or the table would end
   pub at-declaration : (r : Token) → isOutside (r .kind) ≡ true → Payload r → AtDeclaration r rs
@@ -123,8 +127,28 @@ module _ (rs : List Token) where
   at-declaration r e =
       either (eqb (r .kind) 0) _ e (λ q. at-kind P r (eqb-true _ _ q) (λ p. never p))
       (λ e. either (eqb (r .kind) sStruct) _ e
-      (λ q. at-kind P r (eqb-true _ _ q) (λ p. record { rule = p; after = λ k. refl; opening = refl; imports = refl; fields = refl; deleted = refl; declarations = refl; kind = refl; settles = refl }))
-      (λ q. at-kind P r (eqb-true _ _ q) (λ p. record { rule = p; after = λ k. refl; opening = refl; imports = refl; fields = refl; deleted = refl; declarations = refl; kind = refl; settles = refl })))
+      (λ q. at-kind P r (eqb-true _ _ q) (λ p. record {
+        rule = p;
+        after = λ k. refl;
+        opening = refl;
+        imports = refl;
+        fields = refl;
+        deleted = refl;
+        declarations = refl;
+        kind = refl;
+        settles = refl;
+      }))
+      (λ q. at-kind P r (eqb-true _ _ q) (λ p. record {
+        rule = p;
+        after = λ k. refl;
+        opening = refl;
+        imports = refl;
+        fields = refl;
+        deleted = refl;
+        declarations = refl;
+        kind = refl;
+        settles = refl;
+      })))
     where
       P : Token → Type 0
       P r = Payload r → AtDeclaration r rs
@@ -135,19 +159,25 @@ module _ (rs : List Token) where
 
   pub at-deleted : (r : Token) → r .kind ≡ sDeleted → Payload r → AtDeleted r rs
   unfolding isPayload mayFollow pick
-  at-deleted r e = at-kind (λ r. Payload r → AtDeleted r rs) r e (λ p. record { rule = p; after = λ k. refl; fields = refl; deleted = refl; declarations = refl })
+  at-deleted r e = at-kind (λ r. Payload r → AtDeleted r rs) r e
+      (λ p. record { rule = p; after = λ k. refl; fields = refl; deleted = refl; declarations = refl })
 
   pub at-array : (r : Token) → r .kind ≡ sArray → Payload r → AtType r rs isEmpty isType (TypeVariant.array (rangeOf r) (typeOf rs))
   unfolding isPayload isTypePayload mayFollow pick
-  at-array r e = at-kind (λ r. Payload r → AtType r rs isEmpty isType (TypeVariant.array (rangeOf r) (typeOf rs))) r e (λ p. record { right = p; after = λ k. refl; is = refl; fields = refl; deleted = refl; declarations = refl })
+  at-array r e = at-kind (λ r. Payload r → AtType r rs isEmpty isType (TypeVariant.array (rangeOf r) (typeOf rs))) r e
+      (λ p. record { right = p; after = λ k. refl; is = refl; fields = refl; deleted = refl; declarations = refl })
 
   pub at-plain : (r : Token) → r .kind ≡ sPlain → Payload r → AtType r rs isPlainType isInside (TypeVariant.plain (rangeOf r) (u16At (r .payload) 0))
   unfolding isPayload isTypePayload mayFollow pick
-  at-plain r e = at-kind (λ r. Payload r → AtType r rs isPlainType isInside (TypeVariant.plain (rangeOf r) (u16At (r .payload) 0))) r e (λ p. record { right = p; after = λ k. refl; is = refl; fields = refl; deleted = refl; declarations = refl })
+  at-plain r e = at-kind (λ r. Payload r → AtType r rs isPlainType isInside (TypeVariant.plain (rangeOf r) (u16At (r .payload) 0))) r e
+      (λ p. record { right = p; after = λ k. refl; is = refl; fields = refl; deleted = refl; declarations = refl })
 
-  pub at-custom : (r : Token) → r .kind ≡ sCustom → Payload r → AtType r rs isCustom isInside (TypeVariant.custom (rangeOf r) (optional (nameOf (r .payload))) (afterName (r .payload)))
+  pub at-custom : (r : Token) → r .kind ≡ sCustom → Payload r
+      → AtType r rs isCustom isInside (TypeVariant.custom (rangeOf r) (optional (nameOf (r .payload))) (afterName (r .payload)))
   unfolding isPayload isTypePayload mayFollow pick
-  at-custom r e = at-kind (λ r. Payload r → AtType r rs isCustom isInside (TypeVariant.custom (rangeOf r) (optional (nameOf (r .payload))) (afterName (r .payload)))) r e (λ p. record { right = p; after = λ k. refl; is = refl; fields = refl; deleted = refl; declarations = refl })
+  at-custom r e = at-kind (λ r. Payload r
+      → AtType r rs isCustom isInside (TypeVariant.custom (rangeOf r) (optional (nameOf (r .payload))) (afterName (r .payload)))) r e
+      (λ p. record { right = p; after = λ k. refl; is = refl; fields = refl; deleted = refl; declarations = refl })
 
 row-array : (row k : ℕ) → k ≡ sArray → rowAfter row k ≡ row + 1
 unfolding rowAfter pick

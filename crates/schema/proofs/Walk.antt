@@ -106,7 +106,8 @@ row-field : (row k : ℕ) → k ≡ sField → rowAfter row k ≡ 0
 unfolding rowAfter pick
 row-field row k e = rw e
 
-pub type-nested : {t : Bytes} {at : ℕ} {may : ℕ → Bool} → Stands t at may → at < length t → kindAt t at ≡ sField → nesting (typeOf (recordsFrom t (nextAt t at))) ≤ 64
+pub type-nested : {t : Bytes} {at : ℕ} {may : ℕ → Bool} → Stands t at may → at < length t → kindAt t at ≡ sField
+    → nesting (typeOf (recordsFrom t (nextAt t at))) ≤ 64
 type-nested {t} {at} s h e =
     let r = record-at s h in
     let n : NextIs (s .before) (s .row) (tokenAt t at) (recordsFrom t (nextAt t at)) = next-is (rw (r .records) at (s .right)) in

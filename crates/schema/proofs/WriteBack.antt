@@ -17,7 +17,8 @@ use Rattle.token.specs.Payload.{paragraphsOf, paragraphBytes}
 use Rattle.schema.specs.Ast.{Range}
 use Rattle.schema.specs.Kind.{sComment, sImport, sField, sDeleted, sArray, sPlain, sCustom}
 use Rattle.schema.specs.Order.{isChainAfter, isChain}
-use Rattle.schema.specs.Limits.{Each, RangeWithin, CommentWithin, ImportWithin, TypeWithin, nesting, FieldWithin, DeletedWithin, DeclarationWithin, isEarlier, Within}
+use Rattle.schema.specs.Limits.{Each, RangeWithin, CommentWithin, ImportWithin, TypeWithin, nesting}
+use Rattle.schema.specs.Limits.{FieldWithin, DeletedWithin, DeclarationWithin, isEarlier, Within}
 use Rattle.schema.specs.Encode.{nowhere, indices}
 use Rattle.schema.specs.Payload.{nameOf, indicesOf, isTypePayload, isPayload}
 use Rattle.schema.specs.Table.{mayFollow, isOutside, isImporting, isInside, isType, isLater, rowAfter, areNext, outset}
@@ -91,7 +92,16 @@ module _ (rs : List Token) (h : Parts rs) (last : Token) (row : ℕ) where
       let d = declaration-read (r .payload) (read .bytes) (a .rule) in
       record {
         back = rw (a .declarations, a .kind, d .back, i .back, a .settles);
-        declarations = rw (a .declarations) (record { range = range-within read; comment = d .comment; name = d .name; fields = i .fields; deleted = i .deleted }, i .declarations);
+        declarations = rw (a .declarations) (
+          record {
+            range = range-within read;
+            comment = d .comment;
+            name = d .name;
+            fields = i .fields;
+            deleted = i .deleted;
+          },
+          i .declarations,
+        );
       }
 
   field-gives : (range : Range) (p : Bytes) → Gives InsideParts (made sField range p)
@@ -101,7 +111,17 @@ module _ (rs : List Token) (h : Parts rs) (last : Token) (row : ℕ) where
       let f = field-read p (read .bytes) (n .payload) in
       record {
         back = rw (f .back, t .back);
-        fields = (record { range = range-within read; comment = f .comment; name = f .name; type = t .type; nested = rw zero-add at (t .nested); index = f .index }, t .fields);
+        fields = (
+          record {
+            range = range-within read;
+            comment = f .comment;
+            name = f .name;
+            type = t .type;
+            nested = rw zero-add at (t .nested);
+            index = f .index;
+          },
+          t .fields,
+        );
         deleted = t .deleted;
         declarations = t .declarations;
       }
@@ -149,14 +169,28 @@ module _ (rs : List Token) (h : Parts rs) (last : Token) (row : ℕ) where
     plain-gives range p read n =
         let i = h .inside _ _ (λ k. refl) (n .rest) in
         let d = plain-read p (read .bytes) (n .payload) in
-        record { back = rw (d .back, i .back); type = (range-within read, d .kind); nested = omega arith; fields = i .fields; deleted = i .deleted; declarations = i .declarations }
+        record {
+          back = rw (d .back, i .back);
+          type = (range-within read, d .kind);
+          nested = omega arith;
+          fields = i .fields;
+          deleted = i .deleted;
+          declarations = i .declarations;
+        }
 
     custom-gives : (range : Range) (p : Bytes) → Gives (TypedParts row) (made sCustom range p)
     unfolding isPayload isTypePayload mayFollow pick
     custom-gives range p read n =
         let i = h .inside _ _ (λ k. refl) (n .rest) in
         let d = custom-read p (read .bytes) (n .payload) in
-        record { back = rw (d .back, i .back); type = (range-within read, d .import, d .name); nested = omega arith; fields = i .fields; deleted = i .deleted; declarations = i .declarations }
+        record {
+          back = rw (d .back, i .back);
+          type = (range-within read, d .import, d .name);
+          nested = omega arith;
+          fields = i .fields;
+          deleted = i .deleted;
+          declarations = i .declarations;
+        }
 
     typed-gives : (r : Token) → isType (r .kind) ≡ true → Gives (TypedParts row) r
     typed-gives r e =
@@ -164,7 +198,8 @@ module _ (rs : List Token) (h : Parts rs) (last : Token) (row : ℕ) where
         (λ e. either (eqb (r .kind) sPlain) _ e (λ q. at-kind (Gives (TypedParts row)) r (eqb-true _ _ q) (plain-gives (rangeOf r) (r .payload)))
         (λ q. at-kind (Gives (TypedParts row)) r (eqb-true _ _ q) (custom-gives (rangeOf r) (r .payload))))
 
-  earlier : (range : Range) (p : Bytes) → last .kind ≡ sImport → isLater (last .kind) (last .payload) sImport p ≡ true → isBefore (nameOf (last .payload)) (nameOf p) ≡ true
+  earlier : (range : Range) (p : Bytes) → last .kind ≡ sImport → isLater (last .kind) (last .payload) sImport p ≡ true
+      → isBefore (nameOf (last .payload)) (nameOf p) ≡ true
   unfolding isLater pick
   earlier range p e l = rw (eq-eqb (last .kind) sImport e) at l
 
@@ -187,7 +222,13 @@ module _ (rs : List Token) (h : Parts rs) (last : Token) (row : ℕ) where
       (λ e read n.
       let a = at-declaration rs r e (n .payload) in
       let o = outside-gives r e read n in
-      record { back = rw (a .imports) (o .back); imports = rw (a .imports) tt; ascending = rw (a .imports); later = λ _. rw (a .imports); declarations = o .declarations })
+      record {
+        back = rw (a .imports) (o .back);
+        imports = rw (a .imports) tt;
+        ascending = rw (a .imports);
+        later = λ _. rw (a .imports);
+        declarations = o .declarations;
+      })
 
 parts-step : (r : Token) (rs : List Token) → Read r → Parts rs → Parts (r ∷ rs)
 parts-step r rs read h = record {

@@ -9,7 +9,8 @@ use Rattle.token.specs.Payload.{paragraphBytes}
 use Rattle.token.specs.Table.{encodeTokens}
 use Rattle.schema.specs.Ast.{Range, TypeVariant, Field, Import, Declaration, Schema}
 use Rattle.schema.specs.Kind.{sComment, sImport, sField, sDeleted, sArray, sPlain, sCustom}
-use Rattle.schema.specs.Encode.{nowhere, sized, encodeComment, importPayload, encodeImports, importPart, encodeType, fieldPayload, encodeFields, indices, encodeDeleted, declarationKind, declarationPayload, encodeDeclarations, encodeSchema}
+use Rattle.schema.specs.Encode.{nowhere, sized, encodeComment, importPayload, encodeImports, importPart, encodeType, fieldPayload}
+use Rattle.schema.specs.Encode.{encodeFields, indices, encodeDeleted, declarationKind, declarationPayload, encodeDeclarations, encodeSchema}
 
 abbrev pub made : ℕ → Range → Bytes → Token
 made kind r payload = record { kind = kind; start = r .start; end = r .end; payload = payload }
@@ -65,7 +66,11 @@ encode-declarations : (ds : List Declaration) → encodeTokens (declarationRecor
 unfolding encodeTokens
 encode-declarations [] = refl
 encode-declarations (d ∷ ds) =
-    rw (encode-fields (d .fields) (deletedRecords (d .deleted) (declarationRecords ds)), encode-deleted (d .deleted) (declarationRecords ds), encode-declarations ds)
+    rw (
+      encode-fields (d .fields) (deletedRecords (d .deleted) (declarationRecords ds)),
+      encode-deleted (d .deleted) (declarationRecords ds),
+      encode-declarations ds,
+    )
     (simp append-assoc)
 
 encode-imports : (is : List Import) (rs : List Token) → encodeTokens (importRecords is rs) ≡ encodeImports is ++ encodeTokens rs

@@ -34,7 +34,8 @@ drop-taken : (f m : ℕ) (l : Bytes) → f ≤ length l → drop f (take (f + m)
 drop-taken f m l h = rw (take-add f m l, drop-at (take f l) (take m (drop f l)) f (length-take-le f l h))
 
 -- a part of a part
-pub part-within : {bs these : Bytes} {a e : ℕ} {r : Part} → a ≤ e → e ≤ length bs → IsPart (part a e bs) these r → IsPart bs these (record { from = a + r .from; to = a + r .to })
+pub part-within : {bs these : Bytes} {a e : ℕ} {r : Part} → a ≤ e → e ≤ length bs → IsPart (part a e bs) these r
+    → IsPart bs these (record { from = a + r .from; to = a + r .to })
 part-within {bs} {these} {a} {e} {r} o h w =
     let l = part-length a e bs h in
     let i : r .to ≤ e - a = omega (arith, w .inside) in
@@ -74,7 +75,8 @@ module _ {path : Bytes} {from to start i : ℕ} (g : Found path from to start i)
       }
 
   slash : i < length path → getD path i 0 ≡ 47 → (k : Bool) → k ≡ kept (part start i path)
-      → lastPart path ≡ lastKept (pick k (part start i path) (part from to path)) ((part (i + 1) (i + 1) path ++ parts (drop (i + 1) path) .first) ∷ parts (drop (i + 1) path) .later)
+      → lastPart path ≡ lastKept (pick k (part start i path) (part from to path))
+      ((part (i + 1) (i + 1) path ++ parts (drop (i + 1) path) .first) ∷ parts (drop (i + 1) path) .later)
   slash h n k e = g .left ∙ rw (part-none, e, add-one, drop-cons path i 0 h, eq-eqb _ _ n, parts, append-nil)
 
   pub keep : i < length path → getD path i 0 ≡ 47 → {k : Bool} → k ≡ kept (part start i path) → k ≡ true → Found path start i (i + 1) (i + 1)
@@ -83,7 +85,13 @@ module _ {path : Bytes} {from to start i : ℕ} (g : Found path from to start i)
 
   pub leave : i < length path → getD path i 0 ≡ 47 → {k : Bool} → k ≡ kept (part start i path) → k ≡ false → Found path from to (i + 1) (i + 1)
   unfolding pick
-  leave h n k e = record { ordered = g .ordered; inside = omega (arith, g .inside); begun = omega arith; within = omega arith; left = slash h n false (sym e ∙ k) }
+  leave h n k e = record {
+    ordered = g .ordered;
+    inside = omega (arith, g .inside);
+    begun = omega arith;
+    within = omega arith;
+    left = slash h n false (sym e ∙ k);
+  }
 
   whole : length path ≤ i → (k : Bool) → k ≡ kept (part start i path) → pick k (part start i path) (part from to path) ≡ lastPart path
   whole h k e = sym (g .left ∙ rw (e, drop-of-length-le path h, append-nil))
@@ -103,7 +111,10 @@ pub record Dotted (p : Bytes) (best i : ℕ) : Type 0 where
 
 module _ {p : Bytes} {best i : ℕ} (g : Dotted p best i) where
   step : i < length p → (b : Bool) → eqb (getD p i 0) 46 ≡ b → Dotted p (pick b i best) (i + 1)
-  step h b e = record { within = omega arith; left = g .left ∙ rw (drop-cons p i 0 h, add-one) (ap (λ (t : Bool). lastDot (suc i) (pick t i best) (drop (suc i) p)) e) }
+  step h b e = record {
+    within = omega arith;
+    left = g .left ∙ rw (drop-cons p i 0 h, add-one) (ap (λ (t : Bool). lastDot (suc i) (pick t i best) (drop (suc i) p)) e);
+  }
 
   pub dot : i < length p → getD p i 0 ≡ 46 → Dotted p i (i + 1)
   unfolding pick
@@ -142,7 +153,8 @@ module _ {path : Bytes} {p : Part} (w : IsPart path (lastPart path) p) where
     unfolding stemOf cut pick
     uncut t d z = record { order = w .order; inside = w .inside; is = rw (← w .is, ← h, t, eq-eqb _ _ (sym d ∙ z)) }
 
-    pub cut-there : b ≡ false → {k : ℕ} → k ≡ lastDot 0 0 (part (p .from) (p .to) path) → (k ≡ 0 → ⊥) → IsPart path (stemOf path) (record { from = p .from; to = p .from + k })
+    pub cut-there : b ≡ false → {k : ℕ} → k ≡ lastDot 0 0 (part (p .from) (p .to) path) → (k ≡ 0 → ⊥)
+        → IsPart path (stemOf path) (record { from = p .from; to = p .from + k })
     unfolding stemOf cut pick
     cut-there t {k} d z =
         let i = dot-inside d in

@@ -25,7 +25,8 @@ pub listing-begin : {o : Bytes} {a : ℕ} {p : Bytes} → length p % 8 ≡ 0 →
 unfolding indicesOf
 listing-begin {p = p} e = record { n = length p / 8; room = omega arith; left = rest-all; size = refl }
 
-next-index : (n : ℕ) (p : Bytes) (i : ℕ) → 0 < n → flatMap indexText (indicesIn n (drop i p)) ≡ bytes " " ++ decimal (u64At p i) ++ flatMap indexText (indicesIn (n - 1) (drop (i + 8) p))
+next-index : (n : ℕ) (p : Bytes) (i : ℕ) → 0 < n
+    → flatMap indexText (indicesIn n (drop i p)) ≡ bytes " " ++ decimal (u64At p i) ++ flatMap indexText (indicesIn (n - 1) (drop (i + 8) p))
 unfolding flatMap indexText leAt
 next-index zero p i h = absurd (omega arith)
 next-index (suc n) p i h =
@@ -36,7 +37,8 @@ module _ {o₀ : Bytes} {a₀ : ℕ} {p o : Bytes} {a i : ℕ} (g : Listing o₀
   pub listing-room : i < length p → i + 8 ≤ length p
   listing-room h = omega (arith, g .room)
 
-  pub listing-more : {m : Bytes} {b : ℕ} {o′ : Bytes} {a′ index : ℕ} → i < length p → index ≡ u64At p i → Wrote o a (bytes " ") m b → Wrote m b (decimal index) o′ a′ → Listing o₀ a₀ p o′ a′ (i + 8)
+  pub listing-more : {m : Bytes} {b : ℕ} {o′ : Bytes} {a′ index : ℕ} → i < length p → index ≡ u64At p i → Wrote o a (bytes " ") m b
+      → Wrote m b (decimal index) o′ a′ → Listing o₀ a₀ p o′ a′ (i + 8)
   listing-more h e v w =
       let some : 0 < g .n = omega (arith, g .room) in
       record {

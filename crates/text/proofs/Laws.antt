@@ -23,7 +23,8 @@ unfolding pick
 wrote-no b x y e w = rw e w
 
 -- a custom type, whose import's name is empty where it has none
-pub custom-none : (i name : Bytes) {o : Bytes} {at : ℕ} {o′ : Bytes} {r : ℕ} → length i ≡ 0 → Wrote o at (pascalOf name) o′ r → Wrote o at (customText (optional i) name) o′ r
+pub custom-none : (i name : Bytes) {o : Bytes} {at : ℕ} {o′ : Bytes} {r : ℕ} → length i ≡ 0 → Wrote o at (pascalOf name) o′ r
+    → Wrote o at (customText (optional i) name) o′ r
 custom-none [] name e w = w
 custom-none (b ∷ i) name e w = absurd (omega arith)
 

@@ -56,7 +56,11 @@ first-word (b ∷ bs) = go (eqb b 32) refl (first-word bs)
   where
     go : (t : Bool) → eqb b 32 ≡ t → FirstWord bs → FirstWord (b ∷ bs)
     go true e f = record { word = rw (e, wordsOf); space = rw (e, wordsOf) (eqb-true b 32 e); later = rw (e, wordsOf) }
-    go false e f = record { word = rw (e, wordsOf) (ap (λ (w : Bytes). b ∷ w) (f .word)); space = rw (e, wordsOf) (f .space); later = rw (e, wordsOf) (f .later) }
+    go false e f = record {
+      word = rw (e, wordsOf) (ap (λ (w : Bytes). b ∷ w) (f .word));
+      space = rw (e, wordsOf) (f .space);
+      later = rw (e, wordsOf) (f .later);
+    }
 
 pub ends : (s : Bytes) (i : ℕ) → i ≤ length s → Ends s (wordEnd s i)
 unfolding wordEnd
@@ -114,7 +118,8 @@ module _ (width : ℕ) (s : Bytes) (start end : ℕ) (b : start ≤ end) (e : En
       rw (next-word s end e h)
       (line-takes width (take (end - start) (drop start s)) (q .first) (q .later) (rw line-length k) ∙ rw (line-next, words-after s (end + 1)))
 
-  pub lines-leave : width < wordEnd s (end + 1) - start → linesAt width s start end ≡ take (end - start) (drop start s) ∷ linesAt width s (end + 1) (wordEnd s (end + 1))
+  pub lines-leave : width < wordEnd s (end + 1) - start
+      → linesAt width s start end ≡ take (end - start) (drop start s) ∷ linesAt width s (end + 1) (wordEnd s (end + 1))
   unfolding linesAt
   lines-leave k =
       let q = wordsOf (drop (end + 1) s) in
@@ -134,7 +139,8 @@ pub record Wrapping (o₀ : Bytes) (a₀ : ℕ) (indentation s : Bytes) (width :
   pub left : Rest o a (flatMap (lineText indentation) (linesAt width s start end)) o₀ a₀ (paragraphText indentation s)
   pub size : length o ≡ length o₀
 
-pub wrapping-begin : {o : Bytes} {a : ℕ} {indentation s : Bytes} {width end : ℕ} → width ≡ 77 - length indentation → end ≡ wordEnd s 0 → Wrapping o a indentation s width o a 0 end
+pub wrapping-begin : {o : Bytes} {a : ℕ} {indentation s : Bytes} {width end : ℕ} → width ≡ 77 - length indentation → end ≡ wordEnd s 0
+    → Wrapping o a indentation s width o a 0 end
 unfolding paragraphText
 wrapping-begin {s = s} {width} w e =
     rw e (record { from = zero-le; ends = ends s 0 zero-le; left = rw (lines-begin width s, w) rest-all; size = refl })
@@ -147,18 +153,31 @@ next-end s {end} h e = (omega arith, omega (arith, ends s (end + 1) (omega arith
 module _ {o₀ : Bytes} {a₀ : ℕ} {indentation s : Bytes} {width : ℕ} {o : Bytes} {a start end : ℕ} (g : Wrapping o₀ a₀ indentation s width o a start end) where
   pub wrapping-take : {end′ : ℕ} → end < length s → end′ ≡ wordEnd s (end + 1) → end′ - start ≤ width → Wrapping o₀ a₀ indentation s width o a start end′
   wrapping-take h e k =
-      record { from = omega (arith, next-end s h e, g .from); ends = rw e (ends s (end + 1) (omega arith)); left = rw (e, ← lines-take width s start end (g .from) (g .ends) h (rw e at k)) (g .left); size = g .size }
+      record {
+        from = omega (arith, next-end s h e, g .from);
+        ends = rw e (ends s (end + 1) (omega arith));
+        left = rw (e, ← lines-take width s start end (g .from) (g .ends) h (rw e at k)) (g .left);
+        size = g .size;
+      }
 
-  pub wrapping-leave : {end′ : ℕ} {o′ : Bytes} {a′ : ℕ} → end < length s → end′ ≡ wordEnd s (end + 1) → width < end′ - start → Wrote o a (lineText indentation (take (end - start) (drop start s))) o′ a′ → Wrapping o₀ a₀ indentation s width o′ a′ (end + 1) end′
+  pub wrapping-leave : {end′ : ℕ} {o′ : Bytes} {a′ : ℕ} → end < length s → end′ ≡ wordEnd s (end + 1) → width < end′ - start
+      → Wrote o a (lineText indentation (take (end - start) (drop start s))) o′ a′ → Wrapping o₀ a₀ indentation s width o′ a′ (end + 1) end′
   unfolding flatMap
   wrapping-leave h e k w =
-      record { from = omega (arith, next-end s h e); ends = rw e (ends s (end + 1) (omega arith)); left = rest-step w (g .left) (rw (e, lines-leave width s start end (g .from) (g .ends) h (rw e at k))); size = wrote-length w ∙ g .size }
+      record {
+        from = omega (arith, next-end s h e);
+        ends = rw e (ends s (end + 1) (omega arith));
+        left = rest-step w (g .left) (rw (e, lines-leave width s start end (g .from) (g .ends) h (rw e at k)));
+        size = wrote-length w ∙ g .size;
+      }
 
-  pub wrapping-done : {o′ : Bytes} {a′ : ℕ} → length s ≤ end → Wrote o a (lineText indentation (take (length s - start) (drop start s))) o′ a′ → Wrote o₀ a₀ (paragraphText indentation s) o′ a′
+  pub wrapping-done : {o′ : Bytes} {a′ : ℕ} → length s ≤ end → Wrote o a (lineText indentation (take (length s - start) (drop start s))) o′ a′
+      → Wrote o₀ a₀ (paragraphText indentation s) o′ a′
   unfolding flatMap
   wrapping-done h w = rest-none (rest-step w (g .left) (rw (lines-last width s start end (g .ends) h))) refl
 
 -- a paragraph that fits is one line
-pub one-line : (indentation s : Bytes) {o : Bytes} {a : ℕ} {o′ : Bytes} {r : ℕ} → length s ≤ 77 - length indentation → Wrote o a (lineText indentation s) o′ r → Wrote o a (paragraphText indentation s) o′ r
+pub one-line : (indentation s : Bytes) {o : Bytes} {a : ℕ} {o′ : Bytes} {r : ℕ} → length s ≤ 77 - length indentation → Wrote o a (lineText indentation s) o′ r
+    → Wrote o a (paragraphText indentation s) o′ r
 unfolding paragraphText flatMap
 one-line indentation s h w = rw (wrap-one (77 - length indentation) s h, append-nil) w

@@ -33,7 +33,9 @@ use Rattle.schema.proofs.Verdict.{decoded}
 use Rattle.schema.proofs.RoundTrip.{decode-within, encode-decode}
 use Rattle.schema.proofs.Parts.{indices-length}
 use Rattle.text.specs.Wrap.{wordsOf, linesFrom, wrap}
-use Rattle.text.specs.Text.{isEmpty, four, blank, lineText, paragraphText, mark, paragraphsText, importText, importsText, plainText, typeText, ruleText, fieldName, fieldType, fieldIndex, fieldText, fieldsText, hasComment, indexText, deletedText, variantText, headText, declarationText, declarationsText, openingText, textOf}
+use Rattle.text.specs.Text.{isEmpty, four, blank, lineText, paragraphText, mark, paragraphsText, importText, importsText}
+use Rattle.text.specs.Text.{plainText, typeText, ruleText, fieldName, fieldType, fieldIndex, fieldText, fieldsText, hasComment}
+use Rattle.text.specs.Text.{indexText, deletedText, variantText, headText, declarationText, declarationsText, openingText, textOf}
 use Rattle.text.proofs.Wrap.{lines-keep}
 
 -- either of two short texts
@@ -72,12 +74,15 @@ abbrev spread : ℕ → List Bytes → ℕ
 spread around [] = 0
 spread around (w ∷ ws) = length w + around + spread around ws
 
-words-spread : (around : ℕ) (p : Bytes) → length (wordsOf p .first) + spread around (wordsOf p .later) + length (wordsOf p .later) ≡ length p + around * length (wordsOf p .later)
+words-spread : (around : ℕ) (p : Bytes)
+    → length (wordsOf p .first) + spread around (wordsOf p .later) + length (wordsOf p .later) ≡ length p + around * length (wordsOf p .later)
 words-spread around [] = omega arith
 words-spread around (b ∷ bs) = go (eqb b 32) refl (words-spread around bs)
   where
-    go : (t : Bool) → eqb b 32 ≡ t → length (wordsOf bs .first) + spread around (wordsOf bs .later) + length (wordsOf bs .later) ≡ length bs + around * length (wordsOf bs .later)
-        → length (wordsOf (b ∷ bs) .first) + spread around (wordsOf (b ∷ bs) .later) + length (wordsOf (b ∷ bs) .later) ≡ length (b ∷ bs) + around * length (wordsOf (b ∷ bs) .later)
+    go : (t : Bool) → eqb b 32 ≡ t
+        → length (wordsOf bs .first) + spread around (wordsOf bs .later) + length (wordsOf bs .later) ≡ length bs + around * length (wordsOf bs .later)
+        → length (wordsOf (b ∷ bs) .first) + spread around (wordsOf (b ∷ bs) .later) + length (wordsOf (b ∷ bs) .later)
+        ≡ length (b ∷ bs) + around * length (wordsOf (b ∷ bs) .later)
     go true e h = rw (e, wordsOf) (omega arith)
     go false e h = rw (e, wordsOf) (omega arith)
 
@@ -98,11 +103,13 @@ one false = 0
 few-words : (gap : Bool) (p : Bytes) → isSpaced gap p ≡ true → 2 * length (wordsOf p .later) + one gap ≤ length p
 few-words true [] e = let z : _≡_ {A = ℕ} 0 1 = cc in absurd (omega arith)
 few-words false [] e = omega arith
-few-words gap (b ∷ bs) e = go (eqb b 32) refl (few-words (eqb b 32) bs (and-eq-true-iff (not (gap && eqb b 32)) _ .0 (and-eq-true-iff (isPrintable b) _ .0 e .1) .1)) gap e
+few-words gap (b ∷ bs) e =
+    go (eqb b 32) refl (few-words (eqb b 32) bs (and-eq-true-iff (not (gap && eqb b 32)) _ .0 (and-eq-true-iff (isPrintable b) _ .0 e .1) .1)) gap e
   where
     go : (t : Bool) → eqb b 32 ≡ t → 2 * length (wordsOf bs .later) + one (eqb b 32) ≤ length bs
         → (gap : Bool) → isSpaced gap (b ∷ bs) ≡ true → 2 * length (wordsOf (b ∷ bs) .later) + one gap ≤ length (b ∷ bs)
-    go true q h true e = let f : not (eqb b 32) ≡ true = and-eq-true-iff (not (eqb b 32)) _ .0 (and-eq-true-iff (isPrintable b) _ .0 e .1) .0 in let z : _≡_ {A = ℕ} 0 1 = cc (rw q at f) in absurd (omega arith)
+    go true q h true e = let f : not (eqb b 32) ≡ true = and-eq-true-iff (not (eqb b 32)) _ .0 (and-eq-true-iff (isPrintable b) _ .0 e .1) .0 in
+        let z : _≡_ {A = ℕ} 0 1 = cc (rw q at f) in absurd (omega arith)
     go true q h false e = rw (q, wordsOf) (omega (arith, rw q at h))
     go false q h true e = rw (q, wordsOf) (omega (arith, rw q at h))
     go false q h false e = rw (q, wordsOf) (omega (arith, rw q at h))
@@ -114,12 +121,22 @@ Paragraphs indentation more = (p : Bytes) → isParagraph p ≡ true → length 
 outer : Paragraphs [] 0
 unfolding paragraphText isParagraph wrap
 outer p e =
-    omega (arith, lines-short [] 3 (omega arith) 77 (wordsOf p .later) (wordsOf p .first), words-spread 3 p, few-words true p (and-eq-true-iff (within 1 1024 (length p)) _ .0 e .1))
+    omega (
+      arith,
+      lines-short [] 3 (omega arith) 77 (wordsOf p .later) (wordsOf p .first),
+      words-spread 3 p,
+      few-words true p (and-eq-true-iff (within 1 1024 (length p)) _ .0 e .1),
+    )
 
 inner : Paragraphs four 2
 unfolding paragraphText isParagraph wrap
 inner p e =
-    omega (arith, lines-short four 7 (omega arith) 73 (wordsOf p .later) (wordsOf p .first), words-spread 7 p, few-words true p (and-eq-true-iff (within 1 1024 (length p)) _ .0 e .1))
+    omega (
+      arith,
+      lines-short four 7 (omega arith) 73 (wordsOf p .later) (wordsOf p .first),
+      words-spread 7 p,
+      few-words true p (and-eq-true-iff (within 1 1024 (length p)) _ .0 e .1),
+    )
 
 mark-short : (indentation : Bytes) (later : Bool) → length (mark indentation later) ≤ length indentation + 2
 unfolding mark
@@ -156,7 +173,8 @@ type-short : (y : TypeVariant) → length (typeText y) + 50 ≤ 4 * length (enco
 type-short (TypeVariant.array r inner) = simp (length-append, record-length) (omega (arith, type-short inner))
 type-short (TypeVariant.plain r kind) = simp (record-length, leBytes-length) (omega (arith, plain-short kind))
 type-short (TypeVariant.custom r none name) = simp (length-append, record-length, leBytes-length) (omega (arith, pascal-short name))
-type-short (TypeVariant.custom r (some import) name) = simp (length-append, record-length, leBytes-length) (omega (arith, snake-short import, pascal-short name))
+type-short (TypeVariant.custom r (some import) name) =
+    simp (length-append, record-length, leBytes-length) (omega (arith, snake-short import, pascal-short name))
 
 -- fields
 blank-short : (b : Bool) → length (blank b) ≤ 1
@@ -175,7 +193,8 @@ field-type-short y =
     let k : length (fieldType y) ≤ 4 * length (encodeType y) - 48 = pick-short _ _ _ _ (omega arith) (simp length-append (omega arith)) in
     omega arith
 
-field-short : (f : Field) → FieldWithin f → length (fieldText f) ≤ 55 + 4 * length (paragraphBytes (f .comment)) + 2 * length (f .name) + 4 * length (encodeType (f .type))
+field-short : (f : Field) → FieldWithin f
+    → length (fieldText f) ≤ 55 + 4 * length (paragraphBytes (f .comment)) + 2 * length (f .name) + 4 * length (encodeType (f .type))
 unfolding fieldText fieldName fieldIndex
 field-short f w =
     simp length-append (omega (
@@ -215,12 +234,14 @@ variant-length : (v : DeclarationVariant) → length (variantText v) ≡ 7
 variant-length DeclarationVariant.struct = refl
 variant-length DeclarationVariant.choice = refl
 
-head-short : (comment : List Bytes) (v : DeclarationVariant) (name : Bytes) → allParagraphs comment ≡ true → length (headText comment v name) ≤ 10 + 4 * length (paragraphBytes comment) + 2 * length name
+head-short : (comment : List Bytes) (v : DeclarationVariant) (name : Bytes) → allParagraphs comment ≡ true
+    → length (headText comment v name) ≤ 10 + 4 * length (paragraphBytes comment) + 2 * length name
 unfolding headText
 head-short comment v name e =
     simp length-append (omega (arith, paragraphs-short [] 0 outer false comment e, variant-length v, pascal-short name))
 
-declarations-short : (parted : Bool) (ds : List Declaration) → Each DeclarationWithin ds → length (declarationsText parted ds) ≤ 4 * length (encodeDeclarations ds)
+declarations-short : (parted : Bool) (ds : List Declaration) → Each DeclarationWithin ds
+    → length (declarationsText parted ds) ≤ 4 * length (encodeDeclarations ds)
 unfolding declarationText
 declarations-short parted [] w = omega arith
 declarations-short parted (d ∷ ds) w =
@@ -238,7 +259,8 @@ opening-short : (s : Schema) → CommentWithin (s .comment) → length (openingT
 unfolding openingText
 opening-short s w = go (s .comment) (w .each) _
   where
-    go : (ps : List Bytes) → allParagraphs ps ≡ true → (b : Bool) → length (paragraphsText [] false ps ++ blank (not (isEmpty ps) && b)) ≤ 4 * length (encodeComment ps)
+    go : (ps : List Bytes) → allParagraphs ps ≡ true → (b : Bool)
+        → length (paragraphsText [] false ps ++ blank (not (isEmpty ps) && b)) ≤ 4 * length (encodeComment ps)
     go [] e b = unfold blank pick in omega arith
     go (p ∷ ps) e b =
         omega (

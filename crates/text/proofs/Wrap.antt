@@ -42,10 +42,12 @@ Greedy width [] = Unit {0}
 Greedy width (l ∷ ls) = Parted width l ls × Greedy width ls
 
 -- a line takes the next word where that fits, and else the word begins the next line
-pub line-takes : (width : ℕ) (line word : Bytes) (words : List Bytes) → length line + 1 + length word ≤ width → linesFrom width line (word ∷ words) ≡ linesFrom width (line ++ (32 ∷ word)) words
+pub line-takes : (width : ℕ) (line word : Bytes) (words : List Bytes) → length line + 1 + length word ≤ width
+    → linesFrom width line (word ∷ words) ≡ linesFrom width (line ++ (32 ∷ word)) words
 line-takes width line word words h = rw (le-leb (length line + 1 + length word) width h, linesFrom)
 
-pub line-leaves : (width : ℕ) (line word : Bytes) (words : List Bytes) → width < length line + 1 + length word → linesFrom width line (word ∷ words) ≡ line ∷ linesFrom width word words
+pub line-leaves : (width : ℕ) (line word : Bytes) (words : List Bytes) → width < length line + 1 + length word
+    → linesFrom width line (word ∷ words) ≡ line ∷ linesFrom width word words
 line-leaves width line word words h = rw (lt-leb (length line + 1 + length word) width h, linesFrom)
 
 -- so what both keep holds of the lines
@@ -57,7 +59,8 @@ pub lines-keep : (width : ℕ) (P : Bytes → List Bytes → List Bytes → Type
     → P line words (linesFrom width line words)
 lines-keep width P last take leave [] line = last line
 lines-keep width P last take leave (word ∷ words) line =
-    go (leb (length line + 1 + length word) width) refl (lines-keep width P last take leave words (line ++ (32 ∷ word))) (lines-keep width P last take leave words word)
+    go (leb (length line + 1 + length word) width) refl (lines-keep width P last take leave words (line ++ (32 ∷ word)))
+    (lines-keep width P last take leave words word)
   where
     go : (b : Bool) → leb (length line + 1 + length word) width ≡ b
         → P (line ++ (32 ∷ word)) words (linesFrom width (line ++ (32 ∷ word)) words)
@@ -79,7 +82,8 @@ are-words : (p : Bytes) → IsWord (wordsOf p .first) × Each IsWord (wordsOf p 
 are-words [] = (refl, tt)
 are-words (b ∷ bs) = go (eqb b 32) refl (are-words bs)
   where
-    go : (t : Bool) → eqb b 32 ≡ t → IsWord (wordsOf bs .first) × Each IsWord (wordsOf bs .later) → IsWord (wordsOf (b ∷ bs) .first) × Each IsWord (wordsOf (b ∷ bs) .later)
+    go : (t : Bool) → eqb b 32 ≡ t → IsWord (wordsOf bs .first) × Each IsWord (wordsOf bs .later)
+        → IsWord (wordsOf (b ∷ bs) .first) × Each IsWord (wordsOf (b ∷ bs) .later)
     go true e h = rw (e, wordsOf) (refl, h)
     go false e h = rw (e, wordsOf) (rw (e, wordsOf) (h .0), h .1)
 
@@ -114,11 +118,13 @@ parted line word [] b h = tt
 parted line word (l ∷ ls) b h = rw b h
 
 -- a line takes the words that it still has to
-takes : (width : ℕ) (words rest : List Bytes) (line : Bytes) → length line + length (spaced words) ≤ width → linesFrom width line (words ++ rest) ≡ linesFrom width (line ++ spaced words) rest
+takes : (width : ℕ) (words rest : List Bytes) (line : Bytes) → length line + length (spaced words) ≤ width
+    → linesFrom width line (words ++ rest) ≡ linesFrom width (line ++ spaced words) rest
 takes width [] rest line h = rw append-nil
 takes width (word ∷ words) rest line h =
     let k : length line + (suc (length word) + length (spaced words)) ≤ width = simp length-append at h in
-    line-takes width line word (words ++ rest) (omega arith) ∙ takes width words rest (line ++ (32 ∷ word)) (simp length-append (omega arith)) ∙ simp append-assoc
+    line-takes width line word (words ++ rest) (omega arith) ∙ takes width words rest (line ++ (32 ∷ word)) (simp length-append (omega arith))
+    ∙ simp append-assoc
 
 takes-line : (width : ℕ) (l : Bytes) (rest : List Bytes) → Fits width l → linesFrom width (wordsOf l .first) (wordsOf l .later ++ rest) ≡ linesFrom width l rest
 takes-line width l rest (inl h) =
@@ -178,7 +184,8 @@ first-joined l (m ∷ ls) = first-append l (joined (m ∷ ls))
 wrap-cons : (width : ℕ) (l p : Bytes) → Fits width l → width < length l + 1 + length (wordsOf p .first) → wrap width (l ++ (32 ∷ p)) ≡ l ∷ wrap width p
 unfolding wrap
 wrap-cons width l p f h =
-    rw (first-append l p, later-append l p) (takes-line width l (wordsOf p .first ∷ wordsOf p .later) f ∙ line-leaves width l (wordsOf p .first) (wordsOf p .later) h)
+    rw (first-append l p, later-append l p) (takes-line width l (wordsOf p .first ∷ wordsOf p .later) f
+    ∙ line-leaves width l (wordsOf p .first) (wordsOf p .later) h)
 
 pub wrap-only : (width : ℕ) (l : Bytes) (ls : List Bytes) → Each (Fits width) (l ∷ ls) → Greedy width (l ∷ ls) → wrap width (joined (l ∷ ls)) ≡ l ∷ ls
 wrap-only width l [] f g = ap (wrap width) (append-nil l) ∙ wrap-line width l (f .0)

@@ -12,7 +12,8 @@ use Rattle.identifier.specs.Forms.{snakeOf, pascalOf}
 use Rattle.identifier.specs.Order.{sameName}
 use Rattle.stem.specs.Stem.{stemOf}
 use Rattle.token.specs.Kind.{kBool, kBytes, kF64, kS64, kString, kU64, kUnit}
-use Rattle.schema.specs.Ast.{TypeVariant, array, plain, custom, Rule, required, asymmetric, optional, Field, Import, DeclarationVariant, struct, choice, Declaration, Schema}
+use Rattle.schema.specs.Ast.{TypeVariant, array, plain, custom, Rule, required, asymmetric, optional}
+use Rattle.schema.specs.Ast.{Field, Import, DeclarationVariant, struct, choice, Declaration, Schema}
 use Rattle.text.specs.Wrap.{wrap}
 
 abbrev pub isEmpty {ℓ} : {A : Type ℓ} → List A → Bool

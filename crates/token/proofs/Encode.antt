@@ -49,7 +49,8 @@ pub record-again : (bs : Bytes) → AllBytes bs → Fits bs
 unfolding recordBytes tokenOf
 record-again bs h f =
     let d = length-drop 12 bs in
-    let l : 12 + length (take (sizeOf bs - 12) (drop 12 bs)) ≡ sizeOf bs = rw (length-take-le (sizeOf bs - 12) (drop 12 bs) (omega (arith, f .tail))) (omega (arith, f .head)) in
+    let l : 12 + length (take (sizeOf bs - 12) (drop 12 bs)) ≡ sizeOf bs = rw (length-take-le (sizeOf bs - 12) (drop 12 bs) (omega (arith, f .tail)))
+    (omega (arith, f .head)) in
     let e : 12 + (sizeOf bs - 12) ≡ sizeOf bs = omega (arith, f .head) in
     rw (l, head-again bs h (omega (arith, f .head, f .tail)), ← take-add 12 (sizeOf bs - 12) bs, e, take-append-drop (sizeOf bs) bs)
 
@@ -77,7 +78,8 @@ end-small bs h f =
     let l : length (take 4 (drop 8 bs)) ≡ 4 = length-take-le 4 (drop 8 bs) (omega (arith, f .head, f .tail)) in
     rw l at (le-small (take 4 (drop 8 bs)) (all-take 4 (drop 8 bs) (all-drop 8 bs h)))
 
-ends-small : (n at last row : ℕ) (bs : Bytes) (ts : List Token) → AllBytes bs → last < 4294967296 → decodeFrom n at last row bs ≡ tokens ts → endOf last ts < 4294967296
+ends-small : (n at last row : ℕ) (bs : Bytes) (ts : List Token) → AllBytes bs → last < 4294967296 → decodeFrom n at last row bs ≡ tokens ts
+    → endOf last ts < 4294967296
 ends-small zero at last row [] ts h m e = let z = decode-end at last row 0 in let q : ts ≡ [] = cc in rw q m
 ends-small (suc n) at last row [] ts h m e = let z = decode-end at last row (suc n) in let q : ts ≡ [] = cc in rw q m
 ends-small zero at last row (b ∷ bs) ts h m e = let o = opened zero at last row (b ∷ bs) ts (omega arith) e in absurd (omega (arith, o .more))
@@ -111,7 +113,8 @@ module _ (t : Token) (rest : Bytes) (w : Narrow t) where
   unfolding recordBytes headBytes
   first-start =
       let a = leBytes 2 (12 + length (t .payload)) ++ leBytes 2 (t .kind) in
-      simp append-assoc (simp append-assoc at (leAt-leBytes 4 (t .start) a (leBytes 4 (t .end) ++ (t .payload ++ rest)) 4 (simp (length-append, leBytes-length)) (w .start)))
+      simp append-assoc (simp append-assoc at (leAt-leBytes 4 (t .start) a (leBytes 4 (t .end) ++ (t .payload ++ rest)) 4
+      (simp (length-append, leBytes-length)) (w .start)))
 
   first-end : u32At (entry t ++ rest) 8 ≡ t .end
   unfolding recordBytes headBytes
@@ -141,7 +144,11 @@ module _ (t : Token) (rest : Bytes) (w : Narrow t) where
       let l = first-length in
       let s = first-size in
       whole-is (entry t ++ rest)
-      ∙ rw (le-leb 12 (length (entry t ++ rest)) (omega arith), le-leb 12 (sizeOf (entry t ++ rest)) (omega arith), le-leb (sizeOf (entry t ++ rest)) (length (entry t ++ rest)) (omega arith))
+      ∙ rw (
+        le-leb 12 (length (entry t ++ rest)) (omega arith),
+        le-leb 12 (sizeOf (entry t ++ rest)) (omega arith),
+        le-leb (sizeOf (entry t ++ rest)) (length (entry t ++ rest)) (omega arith),
+      )
 
 faultless : (last row : ℕ) (bs : Bytes) → isWhole bs ≡ true → Sound last row (tokenOf bs) → faultOf last row bs ≡ 0
 unfolding faultOf tokenFault pick
@@ -176,7 +183,8 @@ ends-rise : {n last row : ℕ} {ts : List Token} → Fit n last row ts → last 
 ends-rise none = omega arith
 ends-rise (more s f) = let i = ends-rise f in omega (arith, s .order)
 
-decode-encoded : {n last row : ℕ} {ts : List Token} → Fit n last row ts → (at : ℕ) → endOf last ts < 4294967296 → decodeFrom n at last row (encodeTokens ts) ≡ tokens ts
+decode-encoded : {n last row : ℕ} {ts : List Token} → Fit n last row ts → (at : ℕ) → endOf last ts < 4294967296
+    → decodeFrom n at last row (encodeTokens ts) ≡ tokens ts
 unfolding encodeTokens
 decode-encoded {n} {last} {row} none at e = decode-end at last row n
 decode-encoded (more {n} {last} {row} {t} {ts} s f) at e =
@@ -195,7 +203,12 @@ decode-encoded (more {n} {last} {row} {t} {ts} s f) at e =
 pub decode-holds : (t : Bytes) (ts : List Token) → AllBytes t → decode t ≡ tokens ts → Holds t ts
 decode-holds t ts h e =
     let s = decode-small t ts e in
-    record { fit = fit 4096 0 0 0 t ts (s .1); narrow = ends-small 4096 0 0 0 t ts h (omega arith) (s .1); bytes = encoded 4096 0 0 0 t ts h (s .1); small = s .0 }
+    record {
+      fit = fit 4096 0 0 0 t ts (s .1);
+      narrow = ends-small 4096 0 0 0 t ts h (omega arith) (s .1);
+      bytes = encoded 4096 0 0 0 t ts h (s .1);
+      small = s .0;
+    }
 
 pub holds-decode : (t : Bytes) (ts : List Token) → Holds t ts → decode t ≡ tokens ts
 unfolding decode pick

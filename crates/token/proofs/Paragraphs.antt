@@ -13,7 +13,8 @@ use lib.Seq.{length-take-le, take-at, drop-at, drop-drop}
 use Rattle.wire.specs.Bytes.{Bytes}
 use Rattle.wire.specs.Le.{leBytes, leNumber, leAt, u16At}
 use Rattle.wire.proofs.Numbers.{AllBytes, leBytes-length, leBytes-leNumber, leAt-leBytes}
-use Rattle.token.specs.Payload.{atLeast, isSpaced, isParagraph, paragraphOf, afterParagraph, areParagraphs, isComment, paragraphsIn, paragraphsOf, paragraphBytes, allParagraphs}
+use Rattle.token.specs.Payload.{atLeast, isSpaced, isParagraph, paragraphOf, afterParagraph, areParagraphs}
+use Rattle.token.specs.Payload.{isComment, paragraphsIn, paragraphsOf, paragraphBytes, allParagraphs}
 use Rattle.token.proofs.Laws.{atLeast-length, paragraphs-none, paragraphs-step}
 
 pub all-take : (n : ℕ) (bs : Bytes) → AllBytes bs → AllBytes (take n bs)

@@ -47,7 +47,8 @@ module _ (at last row : ℕ) where
   decode-full [] h = absurd (omega arith)
   decode-full (b ∷ bs) h = refl
 
-  pub decode-bad : (n : ℕ) (bs : Bytes) → (n ≡ 0 → ⊥) → 0 < length bs → (f : ℕ) → f ≡ faultOf last row bs → (f ≡ 0 → ⊥) → decodeFrom n at last row bs ≡ refused f at
+  pub decode-bad : (n : ℕ) (bs : Bytes) → (n ≡ 0 → ⊥) → 0 < length bs → (f : ℕ) → f ≡ faultOf last row bs → (f ≡ 0 → ⊥)
+      → decodeFrom n at last row bs ≡ refused f at
   unfolding decodeFrom
   decode-bad zero bs m h f e k = absurd (m refl)
   decode-bad (suc n) [] m h f e k = absurd (omega arith)
@@ -55,7 +56,8 @@ module _ (at last row : ℕ) where
   decode-bad (suc n) (b ∷ bs) m h (suc f) e k = rw (← e, decodeFrom)
 
   pub decode-next : (n : ℕ) (bs : Bytes) → (n ≡ 0 → ⊥) → 0 < length bs → faultOf last row bs ≡ 0
-      → decodeFrom n at last row bs ≡ addToken (tokenOf bs) (decodeFrom (n - 1) (at + sizeOf bs) (tokenOf bs .end) (rowAfter row (tokenOf bs .kind)) (drop (sizeOf bs) bs))
+      → decodeFrom n at last row bs ≡ addToken (tokenOf bs) (decodeFrom (n - 1) (at + sizeOf bs) (tokenOf bs .end) (rowAfter row (tokenOf bs .kind))
+      (drop (sizeOf bs) bs))
   unfolding decodeFrom
   decode-next zero bs m h e = absurd (m refl)
   decode-next (suc n) [] m h e = absurd (omega arith)
@@ -122,7 +124,12 @@ checked-large t h = rw (lt-ltb 65536 (length t) h)
 
 pub checking : (t : Bytes) → length t ≤ 65536 → Checking t 0 0 0 0 (checked t)
 unfolding checked decode pick
-checking t h = record { inside = omega arith; few = omega arith; shallow = omega arith; left = rw (le-ltb 65536 (length t) h) (onto-none (decodeFrom 4096 0 0 0 t)) }
+checking t h = record {
+  inside = omega arith;
+  few = omega arith;
+  shallow = omega arith;
+  left = rw (le-ltb 65536 (length t) h) (onto-none (decodeFrom 4096 0 0 0 t));
+}
 
 module _ {t : Bytes} {at count last row : ℕ} {r : Checked} (s : Checking t at count last row r) where
   pub checked-end : length t ≤ at → Fine count last ≡ r
@@ -154,5 +161,6 @@ module _ {t : Bytes} {at count last row : ℕ} {r : Checked} (s : Checking t at 
             inside = omega arith;
             few = omega (arith, s .few, m);
             shallow = g .sound .shallow;
-            left = rw n (rw (decode-next at last row (4096 - count) (drop at t) left-some rest-some (sym e ∙ z), drop-drop (sizeOf (drop at t)) at t, onto-add) at (s .left));
+            left = rw n (rw (decode-next at last row (4096 - count) (drop at t) left-some rest-some (sym e ∙ z), drop-drop (sizeOf (drop at t)) at t, onto-add)
+                at (s .left));
           }

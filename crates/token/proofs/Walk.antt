@@ -115,7 +115,8 @@ pub decode-small : (t : Bytes) (ts : List Token) → decode t ≡ tokens ts → 
 unfolding decode
 decode-small t ts e = go (ltb 65536 (length t)) refl e
   where
-    go : (b : Bool) → ltb 65536 (length t) ≡ b → pick b (refused 1 0) (decodeFrom 4096 0 0 0 t) ≡ tokens ts → (length t ≤ 65536) × (decodeFrom 4096 0 0 0 t ≡ tokens ts)
+    go : (b : Bool) → ltb 65536 (length t) ≡ b → pick b (refused 1 0) (decodeFrom 4096 0 0 0 t) ≡ tokens ts
+        → (length t ≤ 65536) × (decodeFrom 4096 0 0 0 t ≡ tokens ts)
     go true q e = let z : _≡_ {A = ℕ} 0 1 = unfold pick in cc in absurd (omega arith)
     go false q e = (ltb-false 65536 (length t) q, unfold pick in e)
 

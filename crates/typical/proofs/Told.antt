@@ -29,7 +29,8 @@ module _ {t schema schema′ : Bytes} {r : Answer} (w : Answers t schema schema�
   pub schema-stands : {n : ℕ} → r ≡ Schema n → n ≤ length schema′
   schema-stands e = rw (w .buffer) (stands (readAnswer t (length schema)) schema (sym (w .answer) ∙ e))
 
-  pub formats-schema : {text text′ : Bytes} {v q n : ℕ} → r ≡ Schema n → Returns (Writes (take n schema′) text text′) writeStatus writeValue v q → Formats t schema schema′ text text′ v q
+  pub formats-schema : {text text′ : Bytes} {v q n : ℕ} → r ≡ Schema n → Returns (Writes (take n schema′) text text′) writeStatus writeValue v q
+      → Formats t schema schema′ text text′ v q
   formats-schema e p = record { answer = _; answered = rw e at w; formatted = p }
 
   pub formats-refused : {text : Bytes} {number offset : ℕ} → r ≡ Refused number offset → Formats t schema schema′ text text offset number

@@ -36,7 +36,8 @@ then {o} {at} {a} {o₁} {r₁} {b} p q =
     record { bytes = q .bytes ∙ rw (p .bytes, p .place) (over-append a b o at); place = q .place ∙ rw (p .place) (adv-append a b at) }
 
 -- the same, of bytes that the two parts make
-pub parts : {o : Bytes} {at : ℕ} {a o₁ : Bytes} {r₁ : ℕ} {b o₂ : Bytes} {r₂ : ℕ} {bs : Bytes} → Wrote o at a o₁ r₁ → Wrote o₁ r₁ b o₂ r₂ → a ++ b ≡ bs → Wrote o at bs o₂ r₂
+pub parts : {o : Bytes} {at : ℕ} {a o₁ : Bytes} {r₁ : ℕ} {b o₂ : Bytes} {r₂ : ℕ} {bs : Bytes} → Wrote o at a o₁ r₁ → Wrote o₁ r₁ b o₂ r₂ → a ++ b ≡ bs
+    → Wrote o at bs o₂ r₂
 parts p q e = rw e at (then p q)
 
 -- what is left to write takes the one buffer and place to where the other's would take it
@@ -47,7 +48,8 @@ pub record Rest (o : Bytes) (at : ℕ) (bs : Bytes) (o₀ : Bytes) (at₀ : ℕ)
 pub rest-all : {o : Bytes} {at : ℕ} {bs : Bytes} → Rest o at bs o at bs
 rest-all = record { bytes = refl; place = refl }
 
-pub rest-step : {o : Bytes} {at : ℕ} {a o₁ : Bytes} {r₁ : ℕ} {b o₀ : Bytes} {at₀ : ℕ} {bs all : Bytes} → Wrote o at a o₁ r₁ → Rest o at bs o₀ at₀ all → bs ≡ a ++ b → Rest o₁ r₁ b o₀ at₀ all
+pub rest-step : {o : Bytes} {at : ℕ} {a o₁ : Bytes} {r₁ : ℕ} {b o₀ : Bytes} {at₀ : ℕ} {bs all : Bytes} → Wrote o at a o₁ r₁ → Rest o at bs o₀ at₀ all
+    → bs ≡ a ++ b → Rest o₁ r₁ b o₀ at₀ all
 rest-step {o} {at} {a} {b = b} p q e =
     record { bytes = rw (p .bytes, p .place, over-append a b o at, ← e) (q .bytes); place = rw (p .place, adv-append a b at, ← e) (q .place) }
 
@@ -91,7 +93,8 @@ over-sets (b ∷ bs) o at h k =
     let l : length (set o at b) ≡ length o = length-set o at b in
     rw e (over-sets bs (set o at b) (suc at) (omega arith) (omega arith))
 
-pub over-fits : (bs o : Bytes) (at : ℕ) → at + length bs ≤ length o → length o ≤ 18446744073709551615 → over o at bs ≡ take at o ++ bs ++ drop (at + length bs) o
+pub over-fits : (bs o : Bytes) (at : ℕ) → at + length bs ≤ length o → length o ≤ 18446744073709551615
+    → over o at bs ≡ take at o ++ bs ++ drop (at + length bs) o
 over-fits bs o at h k = over-sets bs o at h k ∙ sets-eq bs o at h
 
 -- The three ways of a writer that tests room once: all lies past the end, all fits, or what fits is written. `putMid at k o x` is o after a part of k
@@ -107,14 +110,16 @@ module _ (o : Bytes) (at : ℕ) (bs : Bytes) (small : length o ≤ 1844674407370
       ap (λ (k : ℕ). putMid at k o bs) l ∙ rw (drop-drop, ← append-assoc) (sym (over-fits bs o at (omega arith) small)) in
       record { bytes = rw p lent; place = omega (arith, adv-is bs at here) }
 
-  pub wrote-clipped : {r : ℕ} {x : Bytes} → at ≤ length o → length o - at ≤ length bs → x ≡ take (length o - at) bs → r ≡ min (at + length bs) 18446744073709551615
+  pub wrote-clipped : {r : ℕ} {x : Bytes} → at ≤ length o → length o - at ≤ length bs → x ≡ take (length o - at) bs
+      → r ≡ min (at + length bs) 18446744073709551615
       → Wrote o at bs (putMid at (length o - at) o x) r
   wrote-clipped h f p q =
       let room = length o - at in
       let front = take room bs in
       let l : room ≡ length front = omega (arith, length-take room bs) in
       let past : over (over o at front) (adv at front) (drop room bs) ≡ over o at front =
-      over-past (drop room bs) (over o at front) (adv at front) (omega (arith, over-length front o at, adv-is front at here)) (omega (arith, over-length front o at)) in
+      over-past (drop room bs) (over o at front) (adv at front) (omega (arith, over-length front o at, adv-is front at here))
+      (omega (arith, over-length front o at)) in
       let all : over (over o at front) (adv at front) (drop room bs) ≡ over o at bs =
       over-append front (drop room bs) o at ∙ ap (over o at) (take-append-drop room bs) in
       let lent : putMid at room o front ≡ over o at front =

@@ -27,7 +27,8 @@ use Rattle.writer.specs.Steps.{Commented, Imported}
 use Rattle.writer.specs.Written.{answerTo, leftBy, Writes}
 use Rattle.writer.specs.declared.Written.the-variants as write
 
-pub whole-text : {t : Bytes} {o : Bytes} {to : ℕ} {m : Bytes} {first b : ℕ} {n : Bytes} {next c : ℕ} {o′ : Bytes} {to′ : ℕ} → Commented t o to m first b → Imported t first m b n next c
+pub whole-text : {t : Bytes} {o : Bytes} {to : ℕ} {m : Bytes} {first b : ℕ} {n : Bytes} {next c : ℕ} {o′ : Bytes} {to′ : ℕ} → Commented t o to m first b
+    → Imported t first m b n next c
     → Wrote n c (declarationsText (not (eqb next first)) (declarationsOf (recordsFrom t next))) o′ to′ → Wrote o to (textOf (schemaOf (recordsOf t))) o′ to′
 unfolding textOf
 whole-text a b w =
@@ -54,13 +55,17 @@ refused t o n e =
     record { answer = f .0; buffer = f .1 }
 
 -- measured on the empty part of the buffer, which leaves e there
-module _ (t o : Bytes) {e : Bytes} {need : ℕ} (p : checked t ≡ check.Fine) (m : Wrote [] 0 (textOf (schemaOf (recordsOf t))) e need) (k : length o < 18446744073709551616 - 1) where
+module _ (t o : Bytes) {e : Bytes} {need : ℕ} (p : checked t ≡ check.Fine) (m : Wrote [] 0 (textOf (schemaOf (recordsOf t))) e need)
+    (k : length o < 18446744073709551616 - 1) where
   pub too-small : length (e ++ o) < need → Writes t o (e ++ o) (write.Refused 8 0)
   unfolding laid pick
   too-small h =
       let f = fine t p in
       let l = too-long o m k h in
-      record { answer = rw (le-ltb 131072 (length t) (f .small), f .decodes, l); buffer = rw (le-ltb 131072 (length t) (f .small), f .decodes, l) (nothing o m) }
+      record {
+        answer = rw (le-ltb 131072 (length t) (f .small), f .decodes, l);
+        buffer = rw (le-ltb 131072 (length t) (f .small), f .decodes, l) (nothing o m);
+      }
 
   pub large-enough : {o′ : Bytes} {r : ℕ} → need ≤ length (e ++ o) → Wrote (e ++ o) 0 (textOf (schemaOf (recordsOf t))) o′ r → Writes t o o′ (write.Text r)
   unfolding laid pick
@@ -71,7 +76,8 @@ module _ (t o : Bytes) {e : Bytes} {need : ℕ} (p : checked t ≡ check.Fine) (
       record { answer = rw (le-ltb 131072 (length t) (f .small), f .decodes, l, v .1); buffer = rw (le-ltb 131072 (length t) (f .small), f .decodes, l) (v .0) }
 
 -- not measured, where four bytes for each byte of the table fit
-pub surely-fits : (t o : Bytes) {o′ : Bytes} {r : ℕ} → checked t ≡ check.Fine → AllBytes t → length o ≤ 18446744073709551615 → length t ≤ length o / 4 → Wrote o 0 (textOf (schemaOf (recordsOf t))) o′ r
+pub surely-fits : (t o : Bytes) {o′ : Bytes} {r : ℕ} → checked t ≡ check.Fine → AllBytes t → length o ≤ 18446744073709551615 → length t ≤ length o / 4
+    → Wrote o 0 (textOf (schemaOf (recordsOf t))) o′ r
     → Writes t o o′ (write.Text r)
 unfolding laid pick
 surely-fits t o p a k h w =
@@ -82,5 +88,6 @@ surely-fits t o p a k h w =
     let n : min (0 + length text) 18446744073709551615 ≡ length text = omega arith in
     record {
       answer = rw (le-ltb 131072 (length t) (f .small), f .decodes, le-leb (length text) (length o) s, v, n);
-      buffer = rw (le-ltb 131072 (length t) (f .small), f .decodes, le-leb (length text) (length o) s) (w .bytes ∙ over-fits text o 0 (omega arith) k ∙ rw zero-add);
+      buffer = rw (le-ltb 131072 (length t) (f .small), f .decodes, le-leb (length text) (length o) s)
+          (w .bytes ∙ over-fits text o 0 (omega arith) k ∙ rw zero-add);
     }

@@ -50,7 +50,8 @@ module _ {t : Bytes} {at : ℕ} {fields : Bool} {o : Bytes} {to : ℕ} {o′ : B
       rw e (record { wrote = rw (d .deleted) (then v w); outside = d .next; later = d .later; onward = omega arith })
 
   -- no index is deleted
-  none : Fielded t at → (at < length t → eqb (kindAt t at) sDeleted ≡ false) → deletedOf (recordsFrom t at) ≡ [] → Wrote o to (bytes "}\n") o′ to′ → Ended t at fields o to o′ at to′
+  none : Fielded t at → (at < length t → eqb (kindAt t at) sDeleted ≡ false) → deletedOf (recordsFrom t at) ≡ [] → Wrote o to (bytes "}\n") o′ to′
+      → Ended t at fields o to o′ at to′
   unfolding deletedText pick
   none f k e w =
       record {
@@ -66,7 +67,8 @@ module _ {t : Bytes} {at : ℕ} {fields : Bool} {o : Bytes} {to : ℕ} {o′ : B
   pub ended-other : Fielded t at → at < length t → eqb (kindAt t at) sDeleted ≡ false → Wrote o to (bytes "}\n") o′ to′ → Ended t at fields o to o′ at to′
   ended-other f h e w =
       let r = record-at (f .stands) h in
-      none f (λ k. e) (ap deletedOf (r .records) ∙ at-declaration (recordsFrom t (nextAt t at)) (tokenAt t at) (rw (f .stopped h, e) at (r .allowed)) (r .right) .deleted) w
+      none f (λ k. e) (ap deletedOf (r .records) ∙ at-declaration (recordsFrom t (nextAt t at)) (tokenAt t at) (rw (f .stopped h, e) at (r .allowed))
+      (r .right) .deleted) w
 
 -- a declaration's head, and what it holds after it
 pub record HeadAt (t : Bytes) (at : ℕ) : Type 0 where
@@ -105,8 +107,10 @@ pub record Declaring (t : Bytes) (from : ℕ) (imported : Bool) (o₀ : Bytes) (
 pub declaring-begin : {t : Bytes} {from : ℕ} {imported : Bool} {o : Bytes} {a : ℕ} → Outside t from → Declaring t from imported o a o a from imported
 declaring-begin s = record { outside = s; left = rest-all; size = refl }
 
-module _ {t : Bytes} {from : ℕ} {imported : Bool} {o₀ : Bytes} {to₀ : ℕ} {o : Bytes} {a at : ℕ} {parted : Bool} (g : Declaring t from imported o₀ to₀ o a at parted) where
-  pub declaring-more : {m : Bytes} {b : ℕ} {o′ : Bytes} {a′ next : ℕ} → Wrote o a (blank parted) m b → Declared t at m b o′ next a′ → Declaring t from imported o₀ to₀ o′ a′ next true
+module _ {t : Bytes} {from : ℕ} {imported : Bool} {o₀ : Bytes} {to₀ : ℕ} {o : Bytes} {a at : ℕ} {parted : Bool}
+    (g : Declaring t from imported o₀ to₀ o a at parted) where
+  pub declaring-more : {m : Bytes} {b : ℕ} {o′ : Bytes} {a′ next : ℕ} → Wrote o a (blank parted) m b → Declared t at m b o′ next a′
+      → Declaring t from imported o₀ to₀ o′ a′ next true
   declaring-more v d =
       record {
         outside = d .outside;

@@ -100,7 +100,15 @@ pub record Fielding (t : Bytes) (from : ℕ) (o₀ : Bytes) (to₀ : ℕ) (o : B
 
 pub fielding-begin : {t : Bytes} {from : ℕ} {o : Bytes} {a : ℕ} → Stands t from isInside → Fielding t from o a o a from false
 fielding-begin {from = from} s =
-    record { stands = s; onward = omega arith; left = rw (eq-eqb from from refl) rest-all; some = λ z. absurd (z refl); deleted = refl; later = refl; size = refl }
+    record {
+      stands = s;
+      onward = omega arith;
+      left = rw (eq-eqb from from refl) rest-all;
+      some = λ z. absurd (z refl);
+      deleted = refl;
+      later = refl;
+      size = refl;
+    }
 
 module _ {t : Bytes} {from : ℕ} {o₀ : Bytes} {to₀ : ℕ} {o : Bytes} {a at : ℕ} {commented : Bool} (g : Fielding t from o₀ to₀ o a at commented) where
   some-field : at < length t → kindAt t at ≡ sField → (b : Bool) → eqb at from ≡ b → isEmpty (fieldsOf (recordsFrom t from)) ≡ false
@@ -123,7 +131,8 @@ module _ {t : Bytes} {from : ℕ} {o₀ : Bytes} {to₀ : ℕ} {o : Bytes} {a at
       (record {
         stands = y .next;
         onward = omega arith;
-        left = rest-step (then v w) (g .left) (ap (fieldsText (not (eqb at from)) commented) (f .fields) ∙ rw (field-has (tokenAt t at) (typeAt t (nextAt t at)), ← c, field-text (tokenAt t at) (typeAt t (nextAt t at)), p .fields, z));
+        left = rest-step (then v w) (g .left) (ap (fieldsText (not (eqb at from)) commented) (f .fields)
+            ∙ rw (field-has (tokenAt t at) (typeAt t (nextAt t at)), ← c, field-text (tokenAt t at) (typeAt t (nextAt t at)), p .fields, z));
         some = λ q. some-field h e (eqb at from) refl;
         deleted = g .deleted ∙ f .deleted ∙ p .deleted;
         later = g .later ∙ f .later ∙ p .later;

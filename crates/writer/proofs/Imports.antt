@@ -101,10 +101,12 @@ module _ {t : Bytes} {from : ℕ} {o₀ : Bytes} {to₀ : ℕ} {o : Bytes} {a at
       done (ap importsOf (r .records) ∙ at-declaration (recordsFrom t (nextAt t at)) (tokenAt t at) k (r .right) .imports) (λ z. k)
 
 -- where the table goes on, there is an import or a declaration
-more-at : {t : Bytes} {at : ℕ} → Opened t at → ltb at (length t) ≡ (not (isEmpty (importsOf (recordsFrom t at))) || not (isEmpty (declarationsOf (recordsFrom t at))))
+more-at : {t : Bytes} {at : ℕ} → Opened t at
+    → ltb at (length t) ≡ (not (isEmpty (importsOf (recordsFrom t at))) || not (isEmpty (declarationsOf (recordsFrom t at))))
 more-at {t} {at} o = go (ltb at (length t)) refl
   where
-    go : (b : Bool) → ltb at (length t) ≡ b → ltb at (length t) ≡ (not (isEmpty (importsOf (recordsFrom t at))) || not (isEmpty (declarationsOf (recordsFrom t at))))
+    go : (b : Bool) → ltb at (length t) ≡ b
+        → ltb at (length t) ≡ (not (isEmpty (importsOf (recordsFrom t at))) || not (isEmpty (declarationsOf (recordsFrom t at))))
     go false q = q ∙ rw (records-end t at (ltb-false at (length t) q))
     go true q =
         let h = ltb-true at (length t) q in

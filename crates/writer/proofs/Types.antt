@@ -77,7 +77,14 @@ module _ {t : Bytes} {at : ℕ} (s : Stands t at isType) where
       let r = type-record s in
       let q = at-plain (recordsFrom t (nextAt t at)) (tokenAt t at) e (r .right) in
       let y = ap typeOf (r .records) ∙ q .is in
-      record { depth = ap nesting y; text = ap typeText y ∙ rw e; right = rw e (q .right); unit = ap isUnit y ∙ rw e; next = r .next isInside (q .after); past = past-type r q }
+      record {
+        depth = ap nesting y;
+        text = ap typeText y ∙ rw e;
+        right = rw e (q .right);
+        unit = ap isUnit y ∙ rw e;
+        next = r .next isInside (q .after);
+        past = past-type r q;
+      }
 
   base-custom : kindAt t at ≡ sCustom → BaseAt t at
   unfolding isBase baseText pick
@@ -85,7 +92,14 @@ module _ {t : Bytes} {at : ℕ} (s : Stands t at isType) where
       let r = type-record s in
       let q = at-custom (recordsFrom t (nextAt t at)) (tokenAt t at) e (r .right) in
       let y = ap typeOf (r .records) ∙ q .is in
-      record { depth = ap nesting y; text = ap typeText y ∙ rw e; right = rw e (q .right); unit = ap isUnit y ∙ rw e; next = r .next isInside (q .after); past = past-type r q }
+      record {
+        depth = ap nesting y;
+        text = ap typeText y ∙ rw e;
+        right = rw e (q .right);
+        unit = ap isUnit y ∙ rw e;
+        next = r .next isInside (q .after);
+        past = past-type r q;
+      }
 
   pub base-at : (kindAt t at ≡ sArray → ⊥) → BaseAt t at
   base-at e =
@@ -141,7 +155,8 @@ typed zero {t} {at} {inner} s e i =
     rw j (record { whole = type-record s .whole; next = b .next; past = b .past })
 typed (suc d) {t} {at} {inner} s e i = go (eqb (kindAt t at) sArray) refl (λ u f j. typed d u f j)
   where
-    go : (b : Bool) → eqb (kindAt t at) sArray ≡ b → (Stands t (at + 12) isType → d ≡ depthAt t (at + 12) → inner ≡ at + 12 + 12 * d → Typed t (at + 12) inner) → Typed t at inner
+    go : (b : Bool) → eqb (kindAt t at) sArray ≡ b → (Stands t (at + 12) isType → d ≡ depthAt t (at + 12) → inner ≡ at + 12 + 12 * d → Typed t (at + 12) inner)
+        → Typed t at inner
     go true q inside =
         let k = eqb-true (kindAt t at) sArray q in
         let a = array-at s k in

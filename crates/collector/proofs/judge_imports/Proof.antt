@@ -5,7 +5,11 @@ use Rattle.collector.proofs.judge_imports.Statement.{statement}
 use Rattle.collector.proofs.judge_imports.Tie as tie
 
 returns : tie.Need-returns
-returns c = record { from = _; before = opening-before (c .before .before .before .before .before .before .before .before .before .before .before .before .pre .0 .opening); judged = c .before .before .before .before .before .judge-imports .ensures }
+returns c =
+    let judge-imports = c .before .before .before .before .before .judge-imports in
+    let back8 = c .before .before .before .before .before .before .before .before in
+    let pre = back8 .before .before .before .before .pre in
+    record { from = _; before = opening-before (pre .0 .opening); judged = judge-imports .ensures }
 
 pub judge-imports-spec : {M : Type 1} → statement M
 judge-imports-spec = tie.close (tie.spec (λ c κs. search needs) (λ c. search needs) (λ c. search needs) returns)

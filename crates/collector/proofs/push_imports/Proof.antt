@@ -19,10 +19,12 @@ use ghost.Atoms.{Atoms, sem}
 use contract.Lifetimes.{Lfts}
 use contract.Monad.{Fun, fact}
 use contract.Running.{givenOf, tables, tablesOf}
-use types.Kit.{Given, Item, ‵, raw, _⊛_, ⋆, some, later, _$_, _∵_, !, qed, by, move, keep, drop, group, use1, rewrite, split, join, pick, fsplit, fsplit3, fjoin, fjoin3, feqI, feqL, suffices, frame, await, done}
+use types.Kit.{Given, Item, ‵, raw, _⊛_, ⋆, some, later, _$_, _∵_, !, qed, by, move, keep, drop, group, use1}
+use types.Kit.{rewrite, split, join, pick, fsplit, fsplit3, fjoin, fjoin3, feqI, feqL, suffices, frame, await, done}
 use types.Part.{agg, whole, sub, look-in}
 use types.SemTy.{Body}
-use types.Run.{look, init, store, forget, stop, hop, fld, from, load, addr, of-opd, and-then, no-more, assigns, land, returns, enter, alloc1, alloc0, params1, pass1, pass0, free1, free0}
+use types.Run.{look, init, store, forget, stop, hop, fld, from, load, addr, of-opd, and-then, no-more}
+use types.Run.{assigns, land, returns, enter, alloc1, alloc0, params1, pass1, pass0, free1, free0}
 use sound.WpLaws.{FmC, fmOf, WpFn-mono}
 use denote.RattleType.{RattleType, owns}
 use denote.Laws.{Is, shows}
@@ -41,7 +43,8 @@ use denote.Triple.Clauses.{ensured, lasts}
 use denote.Triple.Entry.{onEntry}
 use denote.Triple.Spec.{Meets, tripleOf}
 use denote.Triple.Table.{entered, cited}
-use denote.Triple.Walked.{says, needs, Stays, stay-ref, stay-dropped, gave-slice, walkOf, AllGo, goes-ref, goes-dropped, goes-gave-slice, Walks, ends-at, walked, walk-meets}
+use denote.Triple.Walked.{says, needs, Stays, stay-ref, stay-dropped, gave-slice, walkOf, AllGo}
+use denote.Triple.Walked.{goes-ref, goes-dropped, goes-gave-slice, Walks, ends-at, walked, walk-meets}
 use denote.Exit.{yes}
 use Rattle.token.specs.Places.{tokensFrom}
 use Rattle.places.specs.Imports.{Orders}
@@ -87,9 +90,11 @@ module _ {M : Type 1} (𝓤 : URA M) (H : Heap 𝓤) (A : Atoms 𝓤) (mm : Memo
   abbrev Grown : Contract 𝓤
   Grown = tripleOf 𝓤 H A grown.signature (grown.spec 𝓤 H A mm run)
 
-module _ {M : Type 1} (𝓤 : URA M) (H : Heap 𝓤) (A : Atoms 𝓤) (W : Given 𝓤 H A) (mm : Memory → SProp 𝓤) (run : Routine → Fun 𝓤) (κ₀ κ₁ κ₂ κ₃ κ₄ : Lft) (q₀ q₁ q₂ q₃ q₄ : Share)
+module _ {M : Type 1} (𝓤 : URA M) (H : Heap 𝓤) (A : Atoms 𝓤) (W : Given 𝓤 H A) (mm : Memory → SProp 𝓤) (run : Routine → Fun 𝓤) (κ₀ κ₁ κ₂ κ₃ κ₄ : Lft)
+    (q₀ q₁ q₂ q₃ q₄ : Share)
     (b o : ℕ) (γ : GName) (h : Collector) (b₁ o₁ : ℕ) (γ₁ : GName) (ys₁ : List ℕ) (s : RefT (List ℕ))
-    (end : ℕ) (p : RefT (List ℕ)) (order : Ordered) (b₄ o₄ : ℕ) (γ₄ : GName) (ys₄ : List ℕ) (ok : (Counts h) × (Orders (now s) (now p) order) × (length (tokensFrom (now s) 0) ≤ length ys₄)) where
+    (end : ℕ) (p : RefT (List ℕ)) (order : Ordered) (b₄ o₄ : ℕ) (γ₄ : GName) (ys₄ : List ℕ)
+    (ok : (Counts h) × (Orders (now s) (now p) order) × (length (tokensFrom (now s) 0) ≤ length ys₄)) where
   -- the machine values of the slices, and of the order
   abbrev v₁ : Val
   v₁ = sliceVal (b₁, o₁) (length ys₁)
@@ -107,7 +112,8 @@ module _ {M : Type 1} (𝓤 : URA M) (H : Heap 𝓤) (A : Atoms 𝓤) (W : Given
   v₄ = sliceVal (b₄, o₄) (length ys₄)
 
   abbrev held : List RattleType
-  held = MutRef (named 0) κ₀ T.the-row ∷ MutSlice (named 1) κ₁ u8 ∷ ShrSlice (named 2) κ₂ u8 ∷ u32 ∷ ShrSlice (named 3) κ₃ u64 ∷ O.the-row ∷ MutSlice (named 4) κ₄ u64 ∷ []
+  held = MutRef (named 0) κ₀ T.the-row ∷ MutSlice (named 1) κ₁ u8 ∷ ShrSlice (named 2) κ₂ u8 ∷ u32 ∷ ShrSlice (named 3) κ₃ u64 ∷ O.the-row
+      ∷ MutSlice (named 4) κ₄ u64 ∷ []
 
   abbrev Arg : Type 0
   Arg = RefT Collector × (RefT (List ℕ) × (RefT (List ℕ) × (ℕ × (RefT (List ℕ) × (Ordered × (RefT (List ℕ) × Unit {0}))))))
@@ -150,18 +156,29 @@ module _ {M : Type 1} (𝓤 : URA M) (H : Heap 𝓤) (A : Atoms 𝓤) (W : Given
   rule-args = (list b₁ o₁ γ₁ ys₁, (h .length, (s, (end, (p, (order, (list b₄ o₄ γ₄ ys₄, tt)))))))
 
   abbrev to-rule : RuleAt 𝓤 H A mm run .Ghost
-  to-rule =
-      ((rule-κs, (q₁, (q₂, (q₃, (q₄, tt)))), tt, rule-args, (v₁ ∷ [], (vint w64 (h .length) ∷ [], (v ∷ [], (vint w32 end ∷ [], (v₃ ∷ [], (w ∷ [], (v₄ ∷ [], tt)))))))), tt)
+  to-rule = (
+    (
+      rule-κs,
+      (q₁, (q₂, (q₃, (q₄, tt)))),
+      tt,
+      rule-args,
+      (v₁ ∷ [], (vint w64 (h .length) ∷ [], (v ∷ [], (vint w32 end ∷ [], (v₃ ∷ [], (w ∷ [], (v₄ ∷ [], tt))))))),
+    ),
+    tt,
+  )
 
   abbrev given : List (Item 𝓤)
   given =
-      rule-toks ∷ ‵ (MutSlice (named 1) κ₁ u8 .own (list b₁ o₁ γ₁ ys₁) (v₁ ∷ [])) ∷ ‵ (ShrSlice (named 2) κ₂ u8 .own s (v ∷ [])) ∷ ‵ (u32 .own end (vint w32 end ∷ []))
-      ∷ ‵ (ShrSlice (named 3) κ₃ u64 .own p (v₃ ∷ [])) ∷ ‵ (O.the-row .own order (w ∷ [])) ∷ ‵ (MutSlice (named 4) κ₄ u64 .own (list b₄ o₄ γ₄ ys₄) (v₄ ∷ [])) ∷ []
+      rule-toks ∷ ‵ (MutSlice (named 1) κ₁ u8 .own (list b₁ o₁ γ₁ ys₁) (v₁ ∷ [])) ∷ ‵ (ShrSlice (named 2) κ₂ u8 .own s (v ∷ []))
+      ∷ ‵ (u32 .own end (vint w32 end ∷ []))
+      ∷ ‵ (ShrSlice (named 3) κ₃ u64 .own p (v₃ ∷ [])) ∷ ‵ (O.the-row .own order (w ∷ [])) ∷ ‵ (MutSlice (named 4) κ₄ u64 .own (list b₄ o₄ γ₄ ys₄) (v₄ ∷ []))
+      ∷ []
 
   asked-rule : h .length < 2 ^ 64 → ent 𝓤 (⋆ 𝓤 H A given) (RuleAt 𝓤 H A mm run .pre to-rule)
   asked-rule fits =
       qed W given ∵ says ! (ok .1, ok .2) $ frame ! $
-      nothing ! $ move ! (6 ∷ 0 ∷ []) $ fjoin ! $ move ! (5 ∷ 0 ∷ []) $ fjoin ! $ move ! (4 ∷ 0 ∷ []) $ fjoin ! $ move ! (3 ∷ 0 ∷ []) $ fjoin ! $ move ! (2 ∷ 0 ∷ []) $ fjoin ! $
+      nothing ! $ move ! (6 ∷ 0 ∷ []) $ fjoin ! $ move ! (5 ∷ 0 ∷ []) $ fjoin ! $ move ! (4 ∷ 0 ∷ []) $ fjoin ! $ move ! (3 ∷ 0 ∷ []) $ fjoin ! $
+      move ! (2 ∷ 0 ∷ []) $ fjoin ! $
       owned ! usize (Is usize) (uint-makes 𝓤 H A W w64) (h .length) _ (refl, fits) $ fjoin ! $ move ! (1 ∷ 0 ∷ []) $ fjoin ! $ done !
 
   abbrev Said : Imports → List ℕ → Type 0
@@ -186,68 +203,113 @@ module _ {M : Type 1} (𝓤 : URA M) (H : Heap 𝓤) (A : Atoms 𝓤) (W : Given
   module _ (h′ : Collector) (next : ℕ) (zs₁ zs₄ : List ℕ) where
     abbrev left : List (Item 𝓤)
     left =
-        ‵ (usize .own next (vint w64 next ∷ [])) ∷ ‵ (fobs γ (T.the-row .coded .code h′)) ∷ ‵ (fbor κ₀ (Body (mem T.the-row) b o γ)) ∷ ‵ (flft κ₀ q₀) ∷ rule-toks ∷ ‵ (finally u8 γ₁ zs₁)
+        ‵ (usize .own next (vint w64 next ∷ [])) ∷ ‵ (fobs γ (T.the-row .coded .code h′)) ∷ ‵ (fbor κ₀ (Body (mem T.the-row) b o γ)) ∷ ‵ (flft κ₀ q₀)
+        ∷ rule-toks ∷ ‵ (finally u8 γ₁ zs₁)
         ∷ ‵ (finally u64 γ₄ zs₄) ∷ []
 
     exits : ImportsPushed (now s) end ys₁ h zs₁ h′ next → length zs₁ ≡ length ys₁ → length zs₄ ≡ length ys₄ → ent 𝓤 (⋆ 𝓤 H A left) (Post (vint w64 next))
     exits e l₁ l₄ =
         qed W left ∵
-        suffices ! _ (ends-at 𝓤 H A f.ended stayed (f.clauses 𝓤 H A mm run) W ((κs, qs, tt, a, vals), tt) (vint w64 next) next (h′, (zs₁, (tt, (tt, (tt, (tt, (zs₄, tt))))))) (tt, (l₁, (tt, (tt, (tt, (tt, (l₄, tt)))))))) $ says ! e $
+        suffices ! _ (ends-at 𝓤 H A f.ended stayed (f.clauses 𝓤 H A mm run) W ((κs, qs, tt, a, vals), tt) (vint w64 next) next
+        (h′, (zs₁, (tt, (tt, (tt, (tt, (zs₄, tt))))))) (tt, (l₁, (tt, (tt, (tt, (tt, (l₄, tt)))))))) $ says ! e $
         move ! (3 ∷ 4 ∷ []) $ join ! $ frame ! $
         -- [the result; obs; the borrow; the last lists, two]
-        nothing ! $ move ! (5 ∷ 0 ∷ []) $ fjoin ! $ nothing ! $ fjoin ! $ nothing ! $ fjoin ! $ nothing ! $ fjoin ! $ nothing ! $ fjoin ! $ move ! (4 ∷ 0 ∷ []) $ fjoin ! $
+        nothing ! $ move ! (5 ∷ 0 ∷ []) $ fjoin ! $ nothing ! $ fjoin ! $ nothing ! $ fjoin ! $ nothing ! $ fjoin ! $ nothing ! $ fjoin ! $
+        move ! (4 ∷ 0 ∷ []) $ fjoin ! $
         -- [what the lists leave; the result; obs; the borrow]
         move ! (2 ∷ 3 ∷ []) $ feqI ! (List Val) (vptr b o ∷ []) (vptr b o ∷ []) refl $ fjoin3 ! $ fjoin ! $ frame ! $ done !
 
-  module _ (C : Calls 𝓤 H) (Λ : Loops 𝓤 H) (fm : FmC 𝓤 H (W .laws) C) (known-rule : Triple 𝓤 (C #collector·judge-imports) (RuleAt 𝓤 H A mm run)) (known-grown : Triple 𝓤 (C #collector·grown) (Grown 𝓤 H A mm run)) where
-    walk : Sized u8 (length ys₁) → Is (ShrSlice (named 2) κ₂ u8) s (v ∷ []) → Is u32 end (vint w32 end ∷ []) → Is (ShrSlice (named 3) κ₃ u64) p (v₃ ∷ []) → Is O.the-row order (w ∷ []) → Sized u64 (length ys₄)
+  module _ (C : Calls 𝓤 H) (Λ : Loops 𝓤 H) (fm : FmC 𝓤 H (W .laws) C) (known-rule : Triple 𝓤 (C #collector·judge-imports) (RuleAt 𝓤 H A mm run))
+      (known-grown : Triple 𝓤 (C #collector·grown) (Grown 𝓤 H A mm run)) where
+    walk : Sized u8 (length ys₁) → Is (ShrSlice (named 2) κ₂ u8) s (v ∷ []) → Is u32 end (vint w32 end ∷ []) → Is (ShrSlice (named 3) κ₃ u64) p (v₃ ∷ [])
+        → Is O.the-row order (w ∷ []) → Sized u64 (length ys₄)
         → ent 𝓤 (onEntry 𝓤 H A f.signature κs qs a vals) (WpFn 𝓤 H C Λ code.function (vptr b o ∷ v₁ ∷ v ∷ vint w32 end ∷ v₃ ∷ w ∷ v₄ ∷ []) Post)
     walk room₁ t-is end-is imports-are order-is room₄ =
         qed W (toks ∷ ‵ (owns held a vals) ∷ []) ∵ enter ! C Λ code.function (vptr b o ∷ v₁ ∷ v ∷ vint w32 end ∷ v₃ ∷ w ∷ v₄ ∷ []) _ $
-        alloc1 ! (λ l₀. alloc1 ! (λ l₁. alloc1 ! (λ l₂. alloc1 ! (λ l₃. alloc1 ! (λ l₄. alloc1 ! (λ l₅. alloc1 ! (λ l₆. alloc1 ! (λ l₇. alloc1 ! (λ l₈. alloc1 ! (λ l₉. alloc1 ! (λ l₁₀. alloc1 ! (λ l₁₁. alloc1 ! (λ l₁₂. alloc1 ! (λ l₁₃. alloc1 ! (λ l₁₄. alloc1 ! (λ l₁₅. alloc0 ! $ params1 ! $
-        pass1 ! (init ! 28 refl (tt, tt)) $ pass1 ! (init ! 26 refl (tt, (tt, (record { fits = room₁ .0 }, tt)))) $ pass1 ! (init ! 24 refl (shr-slice-lawful 𝓤 H A W (named 2) κ₂ u8 .typed s (v ∷ []) t-is .0)) $ pass1 ! (init ! 22 refl (tt, record { fits = end-is .1 })) $
-        pass1 ! (init ! 20 refl (shr-slice-lawful 𝓤 H A W (named 3) κ₃ u64 .typed p (v₃ ∷ []) imports-are .0)) $ pass1 ! (init ! 18 refl (LL.lawful O.the-type O′.the-laws 𝓤 H A W .typed order _ order-is .0)) $ pass1 ! (init ! 16 refl (tt, (tt, (record { fits = room₄ .0 }, tt)))) $ pass0 ! $
+        alloc1 ! (λ l₀. alloc1 ! (λ l₁. alloc1 ! (λ l₂. alloc1 ! (λ l₃. alloc1 !
+        (λ l₄. alloc1 ! (λ l₅. alloc1 ! (λ l₆. alloc1 ! (λ l₇. alloc1 !
+        (λ l₈. alloc1 ! (λ l₉. alloc1 ! (λ l₁₀. alloc1 ! (λ l₁₁. alloc1 ! (λ l₁₂. alloc1 ! (λ l₁₃. alloc1 ! (λ l₁₄. alloc1 ! (λ l₁₅. alloc0 ! $ params1 ! $
+        pass1 ! (init ! 28 refl (tt, tt)) $ pass1 ! (init ! 26 refl (tt, (tt, (record { fits = room₁ .0 }, tt)))) $
+        pass1 ! (init ! 24 refl (shr-slice-lawful 𝓤 H A W (named 2) κ₂ u8 .typed s (v ∷ []) t-is .0)) $
+        pass1 ! (init ! 22 refl (tt, record { fits = end-is .1 })) $
+        pass1 ! (init ! 20 refl (shr-slice-lawful 𝓤 H A W (named 3) κ₃ u64 .typed p (v₃ ∷ []) imports-are .0)) $
+        pass1 ! (init ! 18 refl (LL.lawful O.the-type O′.the-laws 𝓤 H A W .typed order _ order-is .0)) $
+        pass1 ! (init ! 16 refl (tt, (tt, (record { fits = room₄ .0 }, tt)))) $ pass0 ! $
         -- the tokens, and what each parameter owns; the borrow of the collector is opened
-        move ! (32 ∷ []) $ split ! $ move ! (34 ∷ []) $ fsplit ! $ move ! (1 ∷ []) $ fsplit ! $ move ! (1 ∷ []) $ fsplit ! $ move ! (1 ∷ []) $ fsplit ! $ move ! (1 ∷ []) $ fsplit ! $ move ! (1 ∷ []) $ fsplit ! $ move ! (1 ∷ []) $ fsplit ! $ move ! (1 ∷ []) $ drop ! $
-        move ! (6 ∷ []) $ fsplit3 ! $ drop ! $ move ! (0 ∷ 1 ∷ 8 ∷ []) $ opens ! tt T.the-row {h = h} b o (λ vs. spelt ! T.the-row (Is T.the-row) (shows 𝓤 H A T.the-row) (LL.vals T.the-type T′.the-laws) (LL.tells T.the-type T′.the-laws) fullShare h vs b o $
+        move ! (32 ∷ []) $ split ! $ move ! (34 ∷ []) $ fsplit ! $ move ! (1 ∷ []) $ fsplit ! $ move ! (1 ∷ []) $ fsplit ! $ move ! (1 ∷ []) $ fsplit ! $
+        move ! (1 ∷ []) $ fsplit ! $ move ! (1 ∷ []) $ fsplit ! $ move ! (1 ∷ []) $ fsplit ! $ move ! (1 ∷ []) $ drop ! $
+        move ! (6 ∷ []) $ fsplit3 ! $ drop ! $ move ! (0 ∷ 1 ∷ 8 ∷ []) $
+        opens ! tt T.the-row {h = h} b o (λ vs. spelt ! T.the-row (Is T.the-row) (shows 𝓤 H A T.the-row) (LL.vals T.the-type T′.the-laws)
+        (LL.tells T.the-type T′.the-laws) fullShare h vs b o $
         move ! (1 ∷ []) $ peeks ! T.the-row (Is T.the-row) (shows 𝓤 H A T.the-row) h (LL.vals T.the-type T′.the-laws h) (λ was.
         -- [what it owns; the collector's cell; the open borrow; obs; auth; what marks owns; order; imports; end; t; out; the other tokens; the locals]
         assigns ! (addr ! (from ! (fld ! refl (hop ! (look-in ! 38 (sub ! 0 refl (whole !))) (stop !))))) (from ! (stop !)) (init ! 24 refl (tt, tt)) $
-        assigns ! (agg ! (and-then ! (load ! (from ! (stop !)) (look ! 24 refl)) (and-then ! (load ! (from ! (fld ! refl (stop !))) (look-in ! 38 (sub ! 1 refl (whole !)))) (no-more !)))) (from ! (stop !)) (init ! 22 refl (tt, (tt, (record { fits = room₁ .0 }, tt)))) $
-        assigns ! (of-opd ! (load ! (from ! (hop ! (look ! 40 refl) (fld ! refl (stop !)))) (look-in ! 1 (sub ! 0 refl (whole !))))) (from ! (stop !)) (init ! 20 refl (tt, record { fits = LL.owed T.the-type T′.the-laws h _ was .0 .1 })) $
+        assigns ! (agg ! (and-then ! (load ! (from ! (stop !)) (look ! 24 refl))
+        (and-then ! (load ! (from ! (fld ! refl (stop !))) (look-in ! 38 (sub ! 1 refl (whole !)))) (no-more !)))) (from ! (stop !))
+        (init ! 22 refl (tt, (tt, (record { fits = room₁ .0 }, tt)))) $
+        assigns ! (of-opd ! (load ! (from ! (hop ! (look ! 40 refl) (fld ! refl (stop !)))) (look-in ! 1 (sub ! 0 refl (whole !))))) (from ! (stop !))
+        (init ! 20 refl (tt, record { fits = LL.owed T.the-type T′.the-laws h _ was .0 .1 })) $
         assigns ! (addr ! (from ! (fld ! refl (hop ! (look-in ! 28 (sub ! 0 refl (whole !))) (stop !))))) (from ! (stop !)) (init ! 18 refl (tt, tt)) $
-        assigns ! (agg ! (and-then ! (load ! (from ! (stop !)) (look ! 18 refl)) (and-then ! (load ! (from ! (fld ! refl (stop !))) (look-in ! 28 (sub ! 1 refl (whole !)))) (no-more !)))) (from ! (stop !)) (init ! 16 refl (tt, (tt, (record { fits = room₄ .0 }, tt)))) $
+        assigns ! (agg ! (and-then ! (load ! (from ! (stop !)) (look ! 18 refl))
+        (and-then ! (load ! (from ! (fld ! refl (stop !))) (look-in ! 28 (sub ! 1 refl (whole !)))) (no-more !)))) (from ! (stop !))
+        (init ! 16 refl (tt, (tt, (record { fits = room₄ .0 }, tt)))) $
         move ! (1 ∷ []) $ use1 W (‵ (fat fullShare T′.mir b o (mach h))) (W .laws .raw-at fullShare T′.mir b o (mach h)) $
         -- the rule, from the end of the list that the collector holds
-        move ! (11 ∷ 10 ∷ 9 ∷ 8 ∷ 7 ∷ 6 ∷ 5 ∷ []) $ group ! 7 $ use1 W (raw (RuleAt 𝓤 H A mm run .pre to-rule)) (asked-rule (LL.owed T.the-type T′.the-laws h _ was .0 .1)) $
-        calls-at ! fm (RuleAt 𝓤 H A mm run) known-rule to-rule (and-then ! (load ! (from ! (stop !)) (look ! 16 refl)) (and-then ! (load ! (from ! (stop !)) (look ! 14 refl)) (and-then ! (load ! (from ! (stop !)) (look ! 30 refl)) (and-then ! (load ! (from ! (stop !)) (look ! 28 refl)) (and-then ! (load ! (from ! (stop !)) (look ! 26 refl)) (and-then ! (load ! (from ! (stop !)) (look ! 24 refl)) (and-then ! (load ! (from ! (stop !)) (look ! 10 refl)) (no-more !)))))))) (λ u₁.
-        use1 W (later (some (λ (r : Imports). (rule-toks ⊛ ‵ (J.the-row .own r (u₁ ∷ []))) ⊛ raw (ensured 𝓤 H A rule.ended (rule.clauses 𝓤 H A mm run) rule-κs rule-args tt r)))) (id⊢ 𝓤 _) $ await ! tt $ pick ! (λ r₁. split ! $
-        move ! (1 ∷ []) $ use1 W (some (λ (zs : Lists). ‵ (lasts rule.ended rule-κs rule-args zs) ⊛ raw (fact 𝓤 (Said r₁ (zs .0))))) (id⊢ 𝓤 _) $ pick ! (λ zs. split ! $
+        move ! (11 ∷ 10 ∷ 9 ∷ 8 ∷ 7 ∷ 6 ∷ 5 ∷ []) $ group ! 7 $
+        use1 W (raw (RuleAt 𝓤 H A mm run .pre to-rule)) (asked-rule (LL.owed T.the-type T′.the-laws h _ was .0 .1)) $
+        calls-at ! fm (RuleAt 𝓤 H A mm run) known-rule to-rule (and-then ! (load ! (from ! (stop !)) (look ! 16 refl))
+        (and-then ! (load ! (from ! (stop !)) (look ! 14 refl)) (and-then ! (load ! (from ! (stop !)) (look ! 30 refl))
+        (and-then ! (load ! (from ! (stop !)) (look ! 28 refl)) (and-then ! (load ! (from ! (stop !)) (look ! 26 refl))
+        (and-then ! (load ! (from ! (stop !)) (look ! 24 refl)) (and-then ! (load ! (from ! (stop !)) (look ! 10 refl)) (no-more !)))))))) (λ u₁.
+        use1 W (later (some (λ (r : Imports). (rule-toks ⊛ ‵ (J.the-row .own r (u₁ ∷ [])))
+        ⊛ raw (ensured 𝓤 H A rule.ended (rule.clauses 𝓤 H A mm run) rule-κs rule-args tt r)))) (id⊢ 𝓤 _) $ await ! tt $ pick ! (λ r₁. split ! $
+        move ! (1 ∷ []) $ use1 W (some (λ (zs : Lists). ‵ (lasts rule.ended rule-κs rule-args zs) ⊛ raw (fact 𝓤 (Said r₁ (zs .0))))) (id⊢ 𝓤 _) $
+        pick ! (λ zs. split ! $
         move ! (1 ∷ []) $ heard ! (Said r₁ (zs .0)) (λ e₁.
-        fsplit ! $ fsplit ! $ move ! (1 ∷ []) $ feqL ! (λ m₁. move ! (1 ∷ []) $ fsplit ! $ drop ! $ fsplit ! $ drop ! $ fsplit ! $ drop ! $ fsplit ! $ drop ! $ fsplit ! $ drop ! $ fsplit ! $ fsplit ! $ move ! (1 ∷ []) $ feqL ! (λ m₄. move ! (1 ∷ []) $ drop ! $
+        fsplit ! $ fsplit ! $ move ! (1 ∷ []) $
+        feqL ! (λ m₁. move ! (1 ∷ []) $ fsplit ! $ drop ! $ fsplit ! $ drop ! $ fsplit ! $ drop ! $ fsplit ! $ drop ! $ fsplit ! $ drop ! $ fsplit ! $
+        fsplit ! $ move ! (1 ∷ []) $ feqL ! (λ m₄. move ! (1 ∷ []) $ drop ! $
         move ! (2 ∷ []) $ split ! $ move ! (1 ∷ []) $ peeks ! J.the-row (Is J.the-row) (shows 𝓤 H A J.the-row) r₁ (u₁ ∷ []) (λ is₁.
-        land ! (from ! (stop !)) (init ! 23 refl (LL.lawful J.the-type J′.the-laws 𝓤 H A W .typed r₁ _ is₁ .0)) $ rewrite ! 23 (λ (z : Val). ‵ (fat fullShare J′.mir l₈ 0 z)) (ap only (LL.tells J.the-type J′.the-laws r₁ _ is₁)) refl $ drop ! $
+        land ! (from ! (stop !)) (init ! 23 refl (LL.lawful J.the-type J′.the-laws 𝓤 H A W .typed r₁ _ is₁ .0)) $
+        rewrite ! 23 (λ (z : Val). ‵ (fat fullShare J′.mir l₈ 0 z)) (ap only (LL.tells J.the-type J′.the-laws r₁ _ is₁)) refl $ drop ! $
         -- [the other tokens; the last marks; out's last list; the collector's cell; what it owns; the open borrow; obs; auth; the locals]
         -- the collector is told the new end
-        assigns ! (of-opd ! (load ! (from ! (hop ! (look ! 36 refl) (stop !))) (look ! 3 refl))) (from ! (stop !)) (init ! 8 refl (LL.lawful T.the-type T′.the-laws 𝓤 H A W .typed h _ was .0)) $
-        move ! (4 ∷ []) $ use1 W (raw (Grown 𝓤 H A mm run .pre (to-grown (r₁ .to)))) (asked-grown (r₁ .to) (LL.owed J.the-type J′.the-laws r₁ _ is₁ .0 .1) (told r₁ (zs .0) (LL.owed T.the-type T′.the-laws h _ was .0 .1) e₁)) $
-        calls-at ! fm (Grown 𝓤 H A mm run) known-grown (to-grown (r₁ .to)) (and-then ! (load ! (from ! (stop !)) (look ! 8 refl)) (and-then ! (load ! (from ! (fld ! refl (stop !))) (look-in ! 22 (sub ! 0 refl (whole !)))) (no-more !))) (λ u₂.
-        use1 W (later (some (λ (r : Collector). (‵ ftrue ⊛ ‵ (T.the-row .own r (u₂ ∷ []))) ⊛ raw (ensured 𝓤 H A grown.ended (grown.clauses 𝓤 H A mm run) tt (h, ((r₁ .to), tt)) tt r)))) (id⊢ 𝓤 _) $ await ! tt $ pick ! (λ r₂. split ! $
+        assigns ! (of-opd ! (load ! (from ! (hop ! (look ! 36 refl) (stop !))) (look ! 3 refl))) (from ! (stop !))
+        (init ! 8 refl (LL.lawful T.the-type T′.the-laws 𝓤 H A W .typed h _ was .0)) $
+        move ! (4 ∷ []) $ use1 W (raw (Grown 𝓤 H A mm run .pre (to-grown (r₁ .to))))
+        (asked-grown (r₁ .to) (LL.owed J.the-type J′.the-laws r₁ _ is₁ .0 .1) (told r₁ (zs .0) (LL.owed T.the-type T′.the-laws h _ was .0 .1) e₁)) $
+        calls-at ! fm (Grown 𝓤 H A mm run) known-grown (to-grown (r₁ .to))
+        (and-then ! (load ! (from ! (stop !)) (look ! 8 refl)) (and-then ! (load ! (from ! (fld ! refl (stop !))) (look-in ! 22 (sub ! 0 refl (whole !))))
+        (no-more !))) (λ u₂.
+        use1 W (later (some (λ (r : Collector). (‵ ftrue ⊛ ‵ (T.the-row .own r (u₂ ∷ [])))
+        ⊛ raw (ensured 𝓤 H A grown.ended (grown.clauses 𝓤 H A mm run) tt (h, ((r₁ .to), tt)) tt r)))) (id⊢ 𝓤 _) $ await ! tt $ pick ! (λ r₂. split ! $
         move ! (1 ∷ []) $ use1 W (raw (fact 𝓤 (r₂ ≡ grownTo h (r₁ .to)))) (said-grown (r₁ .to) r₂) $ heard ! (r₂ ≡ grownTo h (r₁ .to)) (λ e₂. split ! $ drop ! $
-        peeks ! T.the-row (Is T.the-row) (shows 𝓤 H A T.the-row) r₂ (u₂ ∷ []) (λ is₂. land ! (from ! (stop !)) (init ! 10 refl (LL.lawful T.the-type T′.the-laws 𝓤 H A W .typed r₂ _ is₂ .0)) $
-        assigns ! (of-opd ! (load ! (from ! (stop !)) (look ! 10 refl))) (from ! (hop ! (look ! 36 refl) (stop !))) (store ! 4 refl (LL.lawful T.the-type T′.the-laws 𝓤 H A W .typed r₂ _ is₂ .0)) $
-        assigns ! (of-opd ! (load ! (from ! (fld ! refl (stop !))) (look-in ! 22 (sub ! 1 refl (whole !))))) (from ! (stop !)) (init ! 38 refl (tt, record { fits = LL.owed J.the-type J′.the-laws r₁ _ is₁ .1 .0 .1 })) $
-        move ! (4 ∷ []) $ use1 W (‵ (cellAt fullShare (T.the-row .mir) (u₂ ∷ []) b o)) (W .laws .at-raw fullShare T′.mir b o u₂) $ move ! (0 ∷ 1 ∷ 5 ∷ 6 ∷ 7 ∷ []) $ closes ! tt T.the-row r₂ (u₂ ∷ []) b o $
-        returns ! (look ! 36 refl) $ forget ! 36 refl $ forget ! 34 refl $ forget ! 32 refl $ forget ! 30 refl $ forget ! 28 refl $ forget ! 26 refl $ forget ! 24 refl $ forget ! 22 refl $ forget ! 20 refl $ forget ! 18 refl $ forget ! 16 refl $ forget ! 14 refl $ forget ! 12 refl $ forget ! 10 refl $ forget ! 8 refl $ forget ! 6 refl $
-        move ! (36 ∷ 37 ∷ []) $ free1 ! $ move ! (34 ∷ 35 ∷ []) $ free1 ! $ move ! (32 ∷ 33 ∷ []) $ free1 ! $ move ! (30 ∷ 31 ∷ []) $ free1 ! $ move ! (28 ∷ 29 ∷ []) $ free1 ! $ move ! (26 ∷ 27 ∷ []) $ free1 ! $ move ! (24 ∷ 25 ∷ []) $ free1 ! $ move ! (22 ∷ 23 ∷ []) $ free1 ! $ move ! (20 ∷ 21 ∷ []) $ free1 ! $ move ! (18 ∷ 19 ∷ []) $ free1 ! $ move ! (16 ∷ 17 ∷ []) $ free1 ! $ move ! (14 ∷ 15 ∷ []) $ free1 ! $ move ! (12 ∷ 13 ∷ []) $ free1 ! $ move ! (10 ∷ 11 ∷ []) $ free1 ! $ move ! (8 ∷ 9 ∷ []) $ free1 ! $ move ! (6 ∷ 7 ∷ []) $ free1 ! $ free0 ! $
+        peeks ! T.the-row (Is T.the-row) (shows 𝓤 H A T.the-row) r₂ (u₂ ∷ [])
+        (λ is₂. land ! (from ! (stop !)) (init ! 10 refl (LL.lawful T.the-type T′.the-laws 𝓤 H A W .typed r₂ _ is₂ .0)) $
+        assigns ! (of-opd ! (load ! (from ! (stop !)) (look ! 10 refl))) (from ! (hop ! (look ! 36 refl) (stop !)))
+        (store ! 4 refl (LL.lawful T.the-type T′.the-laws 𝓤 H A W .typed r₂ _ is₂ .0)) $
+        assigns ! (of-opd ! (load ! (from ! (fld ! refl (stop !))) (look-in ! 22 (sub ! 1 refl (whole !))))) (from ! (stop !))
+        (init ! 38 refl (tt, record { fits = LL.owed J.the-type J′.the-laws r₁ _ is₁ .1 .0 .1 })) $
+        move ! (4 ∷ []) $ use1 W (‵ (cellAt fullShare (T.the-row .mir) (u₂ ∷ []) b o)) (W .laws .at-raw fullShare T′.mir b o u₂) $
+        move ! (0 ∷ 1 ∷ 5 ∷ 6 ∷ 7 ∷ []) $ closes ! tt T.the-row r₂ (u₂ ∷ []) b o $
+        returns ! (look ! 36 refl) $ forget ! 36 refl $ forget ! 34 refl $ forget ! 32 refl $ forget ! 30 refl $ forget ! 28 refl $ forget ! 26 refl $
+        forget ! 24 refl $ forget ! 22 refl $ forget ! 20 refl $ forget ! 18 refl $ forget ! 16 refl $ forget ! 14 refl $ forget ! 12 refl $ forget ! 10 refl $
+        forget ! 8 refl $ forget ! 6 refl $
+        move ! (36 ∷ 37 ∷ []) $ free1 ! $ move ! (34 ∷ 35 ∷ []) $ free1 ! $ move ! (32 ∷ 33 ∷ []) $ free1 ! $ move ! (30 ∷ 31 ∷ []) $ free1 ! $
+        move ! (28 ∷ 29 ∷ []) $ free1 ! $ move ! (26 ∷ 27 ∷ []) $ free1 ! $ move ! (24 ∷ 25 ∷ []) $ free1 ! $ move ! (22 ∷ 23 ∷ []) $ free1 ! $
+        move ! (20 ∷ 21 ∷ []) $ free1 ! $ move ! (18 ∷ 19 ∷ []) $ free1 ! $ move ! (16 ∷ 17 ∷ []) $ free1 ! $ move ! (14 ∷ 15 ∷ []) $ free1 ! $
+        move ! (12 ∷ 13 ∷ []) $ free1 ! $ move ! (10 ∷ 11 ∷ []) $ free1 ! $ move ! (8 ∷ 9 ∷ []) $ free1 ! $ move ! (6 ∷ 7 ∷ []) $ free1 ! $ free0 ! $
         keep ! (0 ∷ 1 ∷ 2 ∷ 3 ∷ 5 ∷ 4 ∷ []) $
-        owned ! usize (Is usize) (uint-makes 𝓤 H A W w64) (r₁ .next) _ (refl, LL.owed J.the-type J′.the-laws r₁ _ is₁ .1 .0 .1) $ by ! (exits r₂ (r₁ .next) (zs .0) (zs .1 .1 .1 .1 .1 .1 .0) (imports-pushed e₁ e₂) m₁ m₄))))))))))))))))))))))))))))))
+        owned ! usize (Is usize) (uint-makes 𝓤 H A W w64) (r₁ .next) _ (refl, LL.owed J.the-type J′.the-laws r₁ _ is₁ .1 .0 .1) $
+        by ! (exits r₂ (r₁ .next) (zs .0) (zs .1 .1 .1 .1 .1 .1 .0) (imports-pushed e₁ e₂) m₁ m₄))))))))))))))))))))))))))))))
 
 module _ {M : Type 1} (𝓤 : URA M) (H : Heap 𝓤) (A : Atoms 𝓤) (W : Given 𝓤 H A) (mm : Memory → SProp 𝓤) (run : Routine → Fun 𝓤) where
-  push-walks : (C : Calls 𝓤 H) (Λ : Loops 𝓤 H) → FmC 𝓤 H (W .laws) C → Triple 𝓤 (C #collector·judge-imports) (RuleAt 𝓤 H A mm run) → Triple 𝓤 (C #collector·grown) (Grown 𝓤 H A mm run)
+  push-walks : (C : Calls 𝓤 H) (Λ : Loops 𝓤 H) → FmC 𝓤 H (W .laws) C → Triple 𝓤 (C #collector·judge-imports) (RuleAt 𝓤 H A mm run)
+      → Triple 𝓤 (C #collector·grown) (Grown 𝓤 H A mm run)
       → Walks 𝓤 H A f.ended stayed (WpFn 𝓤 H C Λ code.function) (f.clauses 𝓤 H A mm run)
   push-walks C Λ fm known-rule known-grown =
-      walked 𝓤 H A f.ended stayed (f.clauses 𝓤 H A mm run) (WpFn 𝓤 H C Λ code.function) (λ κs. (ptr-vals, (slice-vals, (slice-vals, (uint-vals w32, (slice-vals, (LL.vals O.the-type O′.the-laws, (slice-vals, tt))))))))
+      walked 𝓤 H A f.ended stayed (f.clauses 𝓤 H A mm run) (WpFn 𝓤 H C Λ code.function)
+      (λ κs. (ptr-vals, (slice-vals, (slice-vals, (uint-vals w32, (slice-vals, (LL.vals O.the-type O′.the-laws, (slice-vals, tt))))))))
       (λ κs. (
         mut-tells (named 0) (κs .0) T.the-row,
         (
@@ -262,11 +324,13 @@ module _ {M : Type 1} (𝓤 : URA M) (H : Heap 𝓤) (A : Atoms 𝓤) (W : Given
         ),
       ))
       (λ κs qs bounds a g are. needs 𝓤 _ _ (λ ok.
-      walk 𝓤 H A W mm run (κs .0) (κs .1 .0) (κs .1 .1 .0) (κs .1 .1 .1 .0) (κs .1 .1 .1 .1 .0) (qs .0) (qs .1 .0) (qs .1 .1 .0) (qs .1 .1 .1 .0) (qs .1 .1 .1 .1 .0)
+      walk 𝓤 H A W mm run (κs .0) (κs .1 .0) (κs .1 .1 .0) (κs .1 .1 .1 .0) (κs .1 .1 .1 .1 .0) (qs .0) (qs .1 .0) (qs .1 .1 .0) (qs .1 .1 .1 .0)
+      (qs .1 .1 .1 .1 .0)
       (a .0 .ptr .0) (a .0 .ptr .1) (a .0 .name) (a .0 .now) (a .1 .0 .ptr .0) (a .1 .0 .ptr .1) (a .1 .0 .name) (a .1 .0 .now) (a .1 .1 .0)
       (a .1 .1 .1 .0) (a .1 .1 .1 .1 .0) (a .1 .1 .1 .1 .1 .0)
       (a .1 .1 .1 .1 .1 .1 .0 .ptr .0) (a .1 .1 .1 .1 .1 .1 .0 .ptr .1) (a .1 .1 .1 .1 .1 .1 .0 .name) (a .1 .1 .1 .1 .1 .1 .0 .now) ok
-      C Λ fm known-rule known-grown (are .1 .0 .0 .1) (are .1 .1 .0) (are .1 .1 .1 .0) (are .1 .1 .1 .1 .0) (are .1 .1 .1 .1 .1 .0) (are .1 .1 .1 .1 .1 .1 .0 .0 .1)))
+      C Λ fm known-rule known-grown (are .1 .0 .0 .1) (are .1 .1 .0) (are .1 .1 .1 .0) (are .1 .1 .1 .1 .0) (are .1 .1 .1 .1 .1 .0)
+      (are .1 .1 .1 .1 .1 .1 .0 .0 .1)))
 
   goes : AllGo 𝓤 H A W 5 (f.signature .params) (f.ended .kept) stayed
   goes = (
@@ -290,14 +354,15 @@ push-meets : {M : Type 1} (𝓤 : URA M) (H : Heap 𝓤) (A : Atoms 𝓤) (W : G
     → Triple 𝓤 (𝓣 .C #collector·judge-imports) (RuleAt 𝓤 H A mm run) → Triple 𝓤 (𝓣 .C #collector·grown) (Grown 𝓤 H A mm run)
     → Meets 𝓤 H A f.signature (WpFn 𝓤 H (𝓣 .C) (𝓣 .Λ) code.function) (f.spec 𝓤 H A mm run)
 push-meets 𝓤 H A W mm run 𝓣 known-rule known-grown =
-    walk-meets 𝓤 H A f.ended stayed W (goes 𝓤 H A W mm run) (f.clauses 𝓤 H A mm run) (WpFn 𝓤 H (𝓣 .C) (𝓣 .Λ) code.function) (WpFn-mono 𝓤 H (W .laws) 𝓣 code.function)
-    (push-walks 𝓤 H A W mm run (𝓣 .C) (𝓣 .Λ) (fmOf 𝓤 H (W .laws) 𝓣) known-rule known-grown)
+    walk-meets 𝓤 H A f.ended stayed W (goes 𝓤 H A W mm run) (f.clauses 𝓤 H A mm run) (WpFn 𝓤 H (𝓣 .C) (𝓣 .Λ) code.function)
+    (WpFn-mono 𝓤 H (W .laws) 𝓣 code.function) (push-walks 𝓤 H A W mm run (𝓣 .C) (𝓣 .Λ) (fmOf 𝓤 H (W .laws) 𝓣) known-rule known-grown)
 
 pub push-imports-spec : {M : Type 1} → stated.statement M
 unfolding code.routine tablesOf
 push-imports-spec 𝓤 H 𝓜 𝓖 𝓡 =
-    entered 𝓤 H (tripleOf 𝓤 H (𝓖 .A) f.signature (f.spec 𝓤 H (𝓖 .A) (𝓜 .mem) (𝓡 .run)))
-    (tables 𝓤 H 𝓜 𝓡 code.env .C) (tables 𝓤 H 𝓜 𝓡 code.env .Λ) #collector·push-imports code.function (code.unfolded 𝓤 H 𝓜 𝓡)
+    entered 𝓤 H (tripleOf 𝓤 H (𝓖 .A) f.signature (f.spec 𝓤 H (𝓖 .A) (𝓜 .mem) (𝓡 .run))) (tables 𝓤 H 𝓜 𝓡 code.env .C) (tables 𝓤 H 𝓜 𝓡 code.env .Λ)
+    #collector·push-imports code.function (code.unfolded 𝓤 H 𝓜 𝓡)
     (push-meets 𝓤 H (𝓖 .A) (givenOf 𝓤 H 𝓜 𝓖) (𝓜 .mem) (𝓡 .run) (tablesOf 𝓤 H 𝓜 (tables 𝓤 H 𝓜 𝓡 code.env))
-    (cited 𝓤 H (RuleAt 𝓤 H (𝓖 .A) (𝓜 .mem) (𝓡 .run)) 𝓜 𝓡 code.env #collector·judge-imports rule-def.routine code.calls-collector·judge-imports (rule-thm.met 𝓤 H 𝓜 𝓖 𝓡))
+    (cited 𝓤 H (RuleAt 𝓤 H (𝓖 .A) (𝓜 .mem) (𝓡 .run)) 𝓜 𝓡 code.env #collector·judge-imports rule-def.routine code.calls-collector·judge-imports
+    (rule-thm.met 𝓤 H 𝓜 𝓖 𝓡))
     (cited 𝓤 H (Grown 𝓤 H (𝓖 .A) (𝓜 .mem) (𝓡 .run)) 𝓜 𝓡 code.env #collector·grown grown-def.routine code.calls-collector·grown (grown-thm.met 𝓤 H 𝓜 𝓖 𝓡)))

@@ -32,7 +32,11 @@ loop-less : tie.Need-loop-less Inv-loop μ-loop
 loop-less c = stepped-less (c .next .ensures)
 
 loop-again : tie.Need-loop-again Inv-loop μ-loop
-loop-again c = find-on (c .before .before .before .before .loop .inv) (λ z. c .before .if2 .left (c .before .before .before .kind-or-end .ensures ∙ z)) (c .next .ensures)
+loop-again c =
+    let if2 = c .before .if2 in
+    let kind-or-end = c .before .before .before .kind-or-end in
+    let loop = c .before .before .before .before .loop in
+    find-on (loop .inv) (λ z. if2 .left (kind-or-end .ensures ∙ z)) (c .next .ensures)
 
 pub find-right-spec : {M : Type 1} → statement M
 find-right-spec =

@@ -14,19 +14,37 @@ abbrev μ-loop : tie.MeasureT-loop
 μ-loop out₀ o t items₀ spare₀ a₀ c₀ out items spare a c = length (ahead t c)
 
 loop-holds : tie.Need-loop-holds Inv-loop μ-loop
-loop-holds c = record { clear = c .before .before .before .before .pre .0; left = rest-all; room = c .before .before .before .before .pre .1; size = refl; size₁ = refl; size₂ = refl }
+loop-holds c =
+    let pre = c .before .before .before .before .pre in
+    record { clear = pre .0; left = rest-all; room = pre .1; size = refl; size₁ = refl; size₂ = refl }
 
 kind-or-end-requires : tie.Need-kind-or-end-requires Inv-loop μ-loop
 kind-or-end-requires c κs = c .loop .inv .clear .wf
 
 put-declaration-requires : tie.Need-put-declaration-requires Inv-loop μ-loop
-put-declaration-requires c κs = (declaration-clear (c .before .before .before .before .before .loop .inv) (λ z. c .before .before .before .if1 .taken (c .before .before .before .before .kind-or-end .ensures ∙ z)), c .before .before .before .before .before .loop .inv .room)
+put-declaration-requires c κs =
+    let if1 = c .before .before .before .if1 in
+    let kind-or-end = c .before .before .before .before .kind-or-end in
+    let loop = c .before .before .before .before .before .loop in
+    (declaration-clear (loop .inv) (λ z. if1 .taken (kind-or-end .ensures ∙ z)), loop .inv .room)
 
 loop-less : tie.Need-loop-less Inv-loop μ-loop
-loop-less c = shrinks (c .before .before .before .before .before .before .before .before .before .before .before .before .before .loop .inv) (λ z. c .before .before .before .before .before .before .before .before .before .before .before .if1 .taken (c .before .before .before .before .before .before .before .before .before .before .before .before .kind-or-end .ensures ∙ z)) (c .before .before .before .before .before .before .before .put-declaration .ensures)
+loop-less c =
+    let put-declaration = c .before .before .before .before .before .before .before .put-declaration in
+    let back8 = c .before .before .before .before .before .before .before .before in
+    let if1 = back8 .before .before .before .if1 in
+    let kind-or-end = back8 .before .before .before .before .kind-or-end in
+    let loop = back8 .before .before .before .before .before .loop in
+    shrinks (loop .inv) (λ z. if1 .taken (kind-or-end .ensures ∙ z)) (put-declaration .ensures)
 
 loop-again : tie.Need-loop-again Inv-loop μ-loop
-loop-again c = declare-on (c .before .before .before .before .before .before .before .before .before .before .before .before .before .loop .inv) (λ z. c .before .before .before .before .before .before .before .before .before .before .before .if1 .taken (c .before .before .before .before .before .before .before .before .before .before .before .before .kind-or-end .ensures ∙ z)) (c .before .before .before .before .before .before .before .put-declaration .ensures) (search needs) (search needs)
+loop-again c =
+    let put-declaration = c .before .before .before .before .before .before .before .put-declaration in
+    let back8 = c .before .before .before .before .before .before .before .before in
+    let if1 = back8 .before .before .before .if1 in
+    let kind-or-end = back8 .before .before .before .before .kind-or-end in
+    let loop = back8 .before .before .before .before .before .loop in
+    declare-on (loop .inv) (λ z. if1 .taken (kind-or-end .ensures ∙ z)) (put-declaration .ensures) (search needs) (search needs)
 
 returns : tie.Need-returns Inv-loop μ-loop
 returns c = declarations-written (c .before .before .loop .inv) (sym (c .before .kind-or-end .ensures) ∙ c .if1 .left)
@@ -34,4 +52,5 @@ returns c = declarations-written (c .before .before .loop .inv) (sym (c .before 
 pub put-declarations-spec : {M : Type 1} → statement M
 put-declarations-spec =
     tie.close
-    (tie.spec Inv-loop μ-loop loop-holds kind-or-end-requires put-declaration-requires loop-less loop-again (λ c. search needs) (λ c. search needs) (λ c. search needs) returns)
+    (tie.spec Inv-loop μ-loop loop-holds kind-or-end-requires put-declaration-requires loop-less loop-again (λ c. search needs) (λ c. search needs)
+    (λ c. search needs) returns)

@@ -32,4 +32,5 @@ loop-again c = search further
 pub compare-from-spec : {M : Type 1} → statement M
 compare-from-spec =
     tie.close
-    (tie.spec Inv-loop μ-loop (λ c κs. c .before .before .pre .1 .inside) loop-holds (λ c κs. search needs) (λ c κs. search needs) (λ c κs. search needs) (λ c κs. search needs) returns returns-2 returns-3 loop-less loop-again)
+    (tie.spec Inv-loop μ-loop (λ c κs. c .before .before .pre .1 .inside) loop-holds (λ c κs. search needs) (λ c κs. search needs) (λ c κs. search needs)
+    (λ c κs. search needs) returns returns-2 returns-3 loop-less loop-again)

@@ -6,7 +6,11 @@ use Rattle.identifier.proofs.is_decided.Statement.{statement}
 use Rattle.identifier.proofs.is_decided.Tie as tie
 
 returns-3 : tie.Need-returns-3
-returns-3 c = decided (c .before .before .before .before .before .if1 .left) (c .before .before .before .before .if2 .left) (c .before .before .is-plain .ensures) (c .is-plain2 .ensures)
+returns-3 c =
+    let is-plain = c .before .before .is-plain in
+    let if2 = c .before .before .before .before .if2 in
+    let if1 = c .before .before .before .before .before .if1 in
+    decided (if1 .left) (if2 .left) (is-plain .ensures) (c .is-plain2 .ensures)
 
 pub is-decided-spec : {M : Type 1} → statement M
 is-decided-spec =

@@ -17,13 +17,24 @@ loop-holds : tie.Need-loop-holds Inv-loop μ-loop
 loop-holds c = record { same = refl }
 
 loop-again : tie.Need-loop-again Inv-loop μ-loop
-loop-again c = passed (c .before .before .before .before .before .loop .inv) (c .before .before .before .before .loop-test .taken) (c .before .before .is-break .ensures) (c .before .if1 .taken) (c .after-break .ensures)
+loop-again c =
+    let if1 = c .before .if1 in
+    let is-break = c .before .before .is-break in
+    let loop-test = c .before .before .before .before .loop-test in
+    let loop = c .before .before .before .before .before .loop in
+    passed (loop .inv) (loop-test .taken) (is-break .ensures) (if1 .taken) (c .after-break .ensures)
 
 word-byte-requires : tie.Need-word-byte-requires Inv-loop μ-loop
-word-byte-requires c κs = (c .before .before .before .before .before .before .pre, c .before .before .before .loop-test .taken, sym (c .before .is-break .ensures) ∙ c .if1 .left)
+word-byte-requires c κs =
+    let is-break = c .before .is-break in
+    let loop-test = c .before .before .before .loop-test in
+    let pre = c .before .before .before .before .before .before .pre in
+    (pre, loop-test .taken, sym (is-break .ensures) ∙ c .if1 .left)
 
 returns : tie.Need-returns Inv-loop μ-loop
-returns c = at-word (c .before .before .before .before .before .loop .inv) (c .word-byte .ensures)
+returns c =
+    let loop = c .before .before .before .before .before .loop in
+    at-word (loop .inv) (c .word-byte .ensures)
 
 returns-2 : tie.Need-returns-2 Inv-loop μ-loop
 returns-2 c = at-end (c .before .loop .inv) (c .loop-test .left)
@@ -31,4 +42,5 @@ returns-2 c = at-end (c .before .loop .inv) (c .loop-test .left)
 pub next-byte-spec : {M : Type 1} → statement M
 next-byte-spec =
     tie.close
-    (tie.spec Inv-loop μ-loop loop-holds (λ c. search needs) (λ c κs. search needs) (λ c. search needs) (λ c κs. search needs) (λ c. search needs) loop-again word-byte-requires returns returns-2)
+    (tie.spec Inv-loop μ-loop loop-holds (λ c. search needs) (λ c κs. search needs) (λ c. search needs) (λ c κs. search needs) (λ c. search needs) loop-again
+    word-byte-requires returns returns-2)

@@ -15,10 +15,18 @@ abbrev μ-loop : tie.MeasureT-loop
 μ-loop out₀ at name up bar class lower upper a₀ i₀ state₀ out a i state = length name - i
 
 loop-less : tie.Need-loop-less Inv-loop μ-loop
-loop-less c = omega (arith, c .before .before .before .before .before .before .before .before .before .loop-test .taken)
+loop-less c =
+    let back8 = c .before .before .before .before .before .before .before .before in
+    let loop-test = back8 .before .loop-test in
+    omega (arith, loop-test .taken)
 
 loop-again : tie.Need-loop-again Inv-loop μ-loop
-loop-again c = putting-more (c .before .before .before .before .before .before .before .before .before .before .loop .inv) (c .before .before .before .before .before .before .before .before .before .loop-test .taken) (c .before .before .before .put-next .ensures) (c .state-after .ensures)
+loop-again c =
+    let put-next = c .before .before .before .put-next in
+    let back8 = c .before .before .before .before .before .before .before .before in
+    let loop-test = back8 .before .loop-test in
+    let loop = back8 .before .before .loop in
+    putting-more (loop .inv) (loop-test .taken) (put-next .ensures) (c .state-after .ensures)
 
 returns : tie.Need-returns Inv-loop μ-loop
 returns c = putting-done (c .before .loop .inv) (c .loop-test .left)

@@ -15,4 +15,6 @@ abbrev μ-loop : tie.MeasureT-loop
 pub skip-same-spec : {M : Type 1} → statement M
 skip-same-spec =
     tie.close
-    (tie.spec Inv-loop μ-loop (λ c. start _ _) (λ c. search needs) (λ c. search needs) (λ c. search needs) (λ c. search needs) (λ c. search alike-more) (λ c. search alike-first) (λ c. alike-differ (c .before .before .before .before .before .loop .inv) (c .if2 .left)) (λ c. search alike-second))
+    (tie.spec Inv-loop μ-loop (λ c. start _ _) (λ c. search needs) (λ c. search needs) (λ c. search needs) (λ c. search needs) (λ c. search alike-more)
+    (λ c. search alike-first) (λ c. let loop = c .before .before .before .before .before .loop in alike-differ (loop .inv) (c .if2 .left))
+    (λ c. search alike-second))

@@ -12,4 +12,7 @@ abbrev μ-loop : tie.MeasureT-loop
 μ-loop name at i₀ state₀ i state = at - i
 
 pub state-to-spec : {M : Type 1} → statement M
-state-to-spec = tie.close (tie.spec Inv-loop μ-loop (λ c. stated _ _) (λ c. search needs) (λ c κs. search needs) (λ c. search needs) (λ c. search needs) (λ c. search stated-more) (λ c. search stated-all))
+state-to-spec =
+    tie.close
+    (tie.spec Inv-loop μ-loop (λ c. stated _ _) (λ c. search needs) (λ c κs. search needs) (λ c. search needs) (λ c. search needs) (λ c. search stated-more)
+    (λ c. search stated-all))

@@ -20,10 +20,19 @@ loop-holds : tie.Need-loop-holds Inv-loop μ-loop
 loop-holds c = record { left = rest-all; size = refl }
 
 put-import-requires : tie.Need-put-import-requires Inv-loop μ-loop
-put-import-requires c κs = each-at (NamedHere (c .before .before .before .before .before .before .before .args .t .now)) (c .before .before .before .before .before .before .before .args .imports .now) (c .before .before .before .loop .i) 0 (c .before .before .before .before .before .before .before .pre) (c .before .before .loop-test .taken)
+put-import-requires c κs =
+    let loop-test = c .before .before .loop-test in
+    let loop = c .before .before .before .loop in
+    let args = c .before .before .before .before .before .before .before .args in
+    let pre = c .before .before .before .before .before .before .before .pre in
+    each-at (NamedHere (args .t .now)) (args .imports .now) (loop .i) 0 pre (loop-test .taken)
 
 loop-again : tie.Need-loop-again Inv-loop μ-loop
-loop-again c = wrote-one (c .before .before .before .before .before .before .loop .inv) (c .before .before .before .before .before .loop-test .taken) refl (c .before .before .put-import .ensures)
+loop-again c =
+    let put-import = c .before .before .put-import in
+    let loop-test = c .before .before .before .before .before .loop-test in
+    let loop = c .before .before .before .before .before .before .loop in
+    wrote-one (loop .inv) (loop-test .taken) refl (put-import .ensures)
 
 same-length : tie.Need-same-length Inv-loop μ-loop
 same-length c = c .before .loop .inv .size
@@ -34,4 +43,5 @@ returns c = wrote-all (c .before .loop .inv) (c .loop-test .left) refl
 pub put-imports-spec : {M : Type 1} → statement M
 put-imports-spec =
     tie.close
-    (tie.spec Inv-loop μ-loop loop-holds (λ c. search needs) (λ c. search needs) put-import-requires (λ c. search needs) (λ c. search needs) loop-again same-length returns)
+    (tie.spec Inv-loop μ-loop loop-holds (λ c. search needs) (λ c. search needs) put-import-requires (λ c. search needs) (λ c. search needs) loop-again
+    same-length returns)

@@ -37,4 +37,5 @@ returns-3 c = search first-ends
 pub common-spec : {M : Type 1} → statement M
 common-spec =
     tie.close
-    (tie.spec Inv-loop μ-loop loop-holds returns name-at-requires name-at-requires-2 (λ c κs. search needs) (λ c. search needs) (λ c. search needs) (λ c. search needs) (λ c. search needs) (λ c. search needs) loop-again returns-2 returns-3)
+    (tie.spec Inv-loop μ-loop loop-holds returns name-at-requires name-at-requires-2 (λ c κs. search needs) (λ c. search needs) (λ c. search needs)
+    (λ c. search needs) (λ c. search needs) (λ c. search needs) loop-again returns-2 returns-3)

@@ -28,4 +28,5 @@ returns-3 c = search done
 pub is-namespace-spec : {M : Type 1} → statement M
 is-namespace-spec =
     tie.close
-    (tie.spec Inv-loop μ-loop (λ c κs. search needs) loop-holds returns (λ c κs. search needs) returns-2 (λ c. search needs) (λ c. search needs) loop-again returns-3)
+    (tie.spec Inv-loop μ-loop (λ c κs. search needs) loop-holds returns (λ c κs. search needs) returns-2 (λ c. search needs) (λ c. search needs) loop-again
+    returns-3)

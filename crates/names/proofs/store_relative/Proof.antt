@@ -8,9 +8,14 @@ count-names-requires : tie.Need-count-names-requires
 count-names-requires c κs = tail-good (c .before .common .ensures)
 
 returns : tie.Need-returns
-returns c = relative-stored (c .before .before .before .before .before .before .before .before .common .ensures) (c .before .before .before .before .before .before .count-names .ensures) (c .before .before .before .store .ensures) (c .with-steps .ensures)
+returns c =
+    let store = c .before .before .before .store in
+    let count-names = c .before .before .before .before .before .before .count-names in
+    let common = c .before .before .before .before .before .before .before .before .common in
+    relative-stored (common .ensures) (count-names .ensures) (store .ensures) (c .with-steps .ensures)
 
 pub store-relative-spec : {M : Type 1} → statement M
 store-relative-spec =
     tie.close
-    (tie.spec (λ c κs. search needs) (λ c. search needs) (λ c. search needs) (λ c. search needs) count-names-requires (λ c. search needs) (λ c. search needs) (λ c. search needs) (λ c κs. search needs) (λ c κs. search needs) (λ c. search needs) returns)
+    (tie.spec (λ c κs. search needs) (λ c. search needs) (λ c. search needs) (λ c. search needs) count-names-requires (λ c. search needs) (λ c. search needs)
+    (λ c. search needs) (λ c κs. search needs) (λ c κs. search needs) (λ c. search needs) returns)

@@ -10,7 +10,10 @@ returns c = measured-big (c .before .before .before .put-text .ensures) (omega a
 
 returns-2 : tie.Need-returns-2
 returns-2 c =
-    measured-fits (c .before .before .before .before .before .before .before .put-text .ensures) (omega arith) (c .before .before .before .before .if1 .left) (c .before .before .put-text2 .ensures)
+    let put-text2 = c .before .before .put-text2 in
+    let if1 = c .before .before .before .before .if1 in
+    let put-text = c .before .before .before .before .before .before .before .put-text in
+    measured-fits (put-text .ensures) (omega arith) (if1 .left) (put-text2 .ensures)
 
 pub store-text-spec : {M : Type 1} → statement M
 store-text-spec =

@@ -28,26 +28,24 @@ abbrev below : ℕ → In 1 parse-type-kinds.ps
 below m = and 1 parse-type-kinds.ps (falls 1 parse-type-kinds.ps _<_ μ m) parse-type.Pre
 
 pub +parse-type-spec : {M : Type 1} → statement M
-+parse-type-spec = close μ λ m. parse-type-lts.spec (
-  kind-or-end-reads.Asked,
-  kind-or-end-reads.Learnt,
-  parse-base-reads.Asked,
-  parse-base-reads.Learnt,
-  next-reads.Asked,
-  next-reads.Learnt,
-  below m,
-  parse-type.Post,
-  parse-closing-reads.Asked,
-  parse-closing-reads.Learnt,
-)
-    (at m)
-    parse-type.Post
-    (λ c κs. c .before .pre .1)
-    (λ c κs. (c .before .before .before .pre .1, λ e. c .if1 .taken (c .before .kind-or-end .ensures ∙ e)))
-    (λ c. c .parse-base .ensures)
-    (λ c κs. (c .before .before .before .pre .1, omega (arith, c .if1 .left, c .before .kind-or-end .ensures)))
++parse-type-spec =
+    close μ λ m. parse-type-lts.spec (
+      kind-or-end-reads.Asked,
+      kind-or-end-reads.Learnt,
+      parse-base-reads.Asked,
+      parse-base-reads.Learnt,
+      next-reads.Asked,
+      next-reads.Learnt,
+      below m,
+      parse-type.Post,
+      parse-closing-reads.Asked,
+      parse-closing-reads.Learnt,
+    ) (at m) parse-type.Post (λ c κs. c .before .pre .1) (λ c κs. (c .before .before .before .pre .1, λ e. c .if1 .taken (c .before .kind-or-end .ensures ∙ e)))
+    (λ c. c .parse-base .ensures) (λ c κs. (c .before .before .before .pre .1, omega (arith, c .if1 .left, c .before .kind-or-end .ensures)))
     (λ c κs.
-    let a = c .before .before .before .before .args in
-    (omega (arith, c .before .before .before .before .pre .0, c .next .ensures .here .1, c .next .ensures .place, next-past (now (a .t)) (a .c .at)), c .next .ensures .wf))
+    let a = c .before .before .before .before .args in (
+      omega (arith, c .before .before .before .before .pre .0, c .next .ensures .here .1, c .next .ensures .place, next-past (now (a .t)) (a .c .at)),
+      c .next .ensures .wf,
+    ))
     (λ c κs. opened (c .before .next .ensures) (sym (c .before .before .before .kind-or-end .ensures) ∙ c .before .before .if1 .left) (c .parse-type .ensures))
     (λ c. c .parse-closing .ensures)

@@ -10,7 +10,11 @@ returns : tie.Need-returns
 returns c = no-dot (ahead (now (c .before .before .before .args .t)) (c .before .before .before .args .c)) (c .before .kind-or-end .ensures) (c .if1 .taken)
 
 returns-2 : tie.Need-returns-2
-returns-2 c = rw (c .kind-or-end2 .ensures) (dot (c .before .next .ensures) (rw (← c .before .before .before .kind-or-end .ensures) (eq-eqb _ _ (c .before .before .if1 .left))))
+returns-2 c =
+    let next = c .before .next in
+    let if1 = c .before .before .if1 in
+    let kind-or-end = c .before .before .before .kind-or-end in
+    rw (c .kind-or-end2 .ensures) (dot (next .ensures) (rw (← kind-or-end .ensures) (eq-eqb _ _ (if1 .left))))
 
 pub is-dotted-spec : {M : Type 1} → statement M
 is-dotted-spec =

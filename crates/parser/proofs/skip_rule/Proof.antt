@@ -6,13 +6,25 @@ use Rattle.parser.proofs.skip_rule.Statement.{statement}
 use Rattle.parser.proofs.skip_rule.Tie as tie
 
 next-requires : tie.Need-next-requires
-next-requires c κs = (c .before .before .before .before .pre, rw (← c .before .before .kind-or-end .ensures) (some-kind isRule _ refl (sym (c .before .is-rule .ensures) ∙ c .if1 .taken)))
+next-requires c κs =
+    let is-rule = c .before .is-rule in
+    let kind-or-end = c .before .before .kind-or-end in
+    let pre = c .before .before .before .before .pre in
+    (pre, rw (← kind-or-end .ensures) (some-kind isRule _ refl (sym (is-rule .ensures) ∙ c .if1 .taken)))
 
 returns : tie.Need-returns
-returns c = skipped isRule (c .next .ensures) (rw (← c .before .before .before .kind-or-end .ensures) (sym (c .before .before .is-rule .ensures) ∙ c .before .if1 .taken))
+returns c =
+    let if1 = c .before .if1 in
+    let is-rule = c .before .before .is-rule in
+    let kind-or-end = c .before .before .before .kind-or-end in
+    skipped isRule (c .next .ensures) (rw (← kind-or-end .ensures) (sym (is-rule .ensures) ∙ if1 .taken))
 
 returns-2 : tie.Need-returns-2
-returns-2 c = not-skipped isRule (c .before .before .before .before .pre) (rw (← c .before .before .kind-or-end .ensures) (sym (c .before .is-rule .ensures) ∙ c .if1 .left))
+returns-2 c =
+    let is-rule = c .before .is-rule in
+    let kind-or-end = c .before .before .kind-or-end in
+    let pre = c .before .before .before .before .pre in
+    not-skipped isRule pre (rw (← kind-or-end .ensures) (sym (is-rule .ensures) ∙ c .if1 .left))
 
 pub skip-rule-spec : {M : Type 1} → statement M
 skip-rule-spec =

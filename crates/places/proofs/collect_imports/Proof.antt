@@ -10,7 +10,8 @@ use Rattle.token.specs.Places.{tokAt}
 use Rattle.grammar.specs.Error.{kindAt}
 use Rattle.grammar.specs.Reading.{fail, parseImport}
 use Rattle.parser.specs.Steps.{ahead, past, Reads, ImportPassed}
-use Rattle.places.proofs.Collecting.{Collecting, collecting, collected, later, collect-room, collect-none, import-here, collect-one, flag-lost, flag-kept}
+use Rattle.places.proofs.Collecting.{Collecting, collecting, collected, later, collect-room}
+use Rattle.places.proofs.Collecting.{collect-none, import-here, collect-one, flag-lost, flag-kept}
 use borrow.Author.Needs.{needs}
 use Rattle.places.proofs.collect_imports.Statement.{statement}
 use Rattle.places.proofs.collect_imports.Tie as tie
@@ -21,17 +22,37 @@ Inv-loop t items₀ sound₀ n₀ c₀ items sound n c = Collecting t c₀ items
 abbrev μ-loop : tie.MeasureT-loop
 μ-loop t items₀ sound₀ n₀ c₀ items sound n c = length t - c .at
 
-found : (c : tie.Then1 Inv-loop μ-loop) → kindAt (ahead (now (c .before .before .before .before .before .args .t)) (c .before .before .loop .c)) ≡ kImport
+found : (c : tie.Then1 Inv-loop μ-loop) →
+    let loop = c .before .before .loop in
+    let args = c .before .before .before .before .before .args in
+    kindAt (ahead (now (args .t)) (loop .c)) ≡ kImport
 found c = sym (c .before .kind-or-end .ensures) ∙ c .if1 .taken
 
-broke : (c : tie.After-known-told Inv-loop μ-loop) → Reads (now (c .before .before .before .before .before .before .before .before .before .args .t)) (past (now (c .before .before .before .before .before .before .before .before .before .args .t)) (c .before .before .before .before .before .before .loop .c)) (parseImport (tokAt (now (c .before .before .before .before .before .before .before .before .before .args .t)) (c .before .before .before .before .before .before .loop .c .at))) (fail (c .before .at .given .0 .0)) (c .before .at .given .0 .1 .0)
+broke : (c : tie.After-known-told Inv-loop μ-loop) →
+    let at-at = c .before .at in
+    let loop = c .before .before .before .before .before .before .loop in
+    let back8 = c .before .before .before .before .before .before .before .before in
+    let args = back8 .before .args in
+    Reads (now (args .t)) (past (now (args .t)) (loop .c)) (parseImport (tokAt (now (args .t)) (loop .c .at))) (fail (at-at .given .0 .0))
+    (at-at .given .0 .1 .0)
 broke c = rw (c .before .at .given .1) at (c .before .before .before .parse-import .ensures)
 
-passed : (c : tie.After-known-told2 Inv-loop μ-loop) → ImportPassed (now (c .before .before .before .before .before .before .before .before .before .args .t)) (c .before .before .before .before .before .before .loop .c) (c .before .after .given .0 .0) (c .before .after .given .0 .1 .0)
+passed : (c : tie.After-known-told2 Inv-loop μ-loop) →
+    let after = c .before .after in
+    let loop = c .before .before .before .before .before .before .loop in
+    let back8 = c .before .before .before .before .before .before .before .before in
+    let args = back8 .before .args in
+    ImportPassed (now (args .t)) (loop .c) (after .given .0 .0) (after .given .0 .1 .0)
 passed c = rw (c .before .after .given .1) at (c .before .before .before .parse-import .ensures)
 
-room : (c : tie.Joined2 Inv-loop μ-loop) → c .before .before .before .before .before .before .before .before .before .loop .n < length (c .before .before .before .before .before .before .before .before .before .loop .items)
-room c = collect-room (c .before .before .before .before .before .before .before .before .before .loop .inv) (found (c .before .before .before .before .before .before .before))
+room : (c : tie.Joined2 Inv-loop μ-loop) →
+    let back8 = c .before .before .before .before .before .before .before .before in
+    let loop = back8 .before .loop in
+    loop .n < length (loop .items)
+room c =
+    let then1 = c .before .before .before .before .before .before .before in
+    let loop = then1 .before .before .loop in
+    collect-room (loop .inv) (found then1)
 
 loop-holds : tie.Need-loop-holds Inv-loop μ-loop
 loop-holds c = collecting (c .before .before .pre .0) (c .before .before .pre .1)
@@ -46,10 +67,16 @@ loop-less : tie.Need-loop-less Inv-loop μ-loop
 loop-less c = omega (arith, later (broke c), broke c .wf .inside)
 
 loop-again : tie.Need-loop-again Inv-loop μ-loop
-loop-again c = collect-none (c .before .before .before .before .before .before .loop .inv) (found (c .before .before .before .before)) (broke c)
+loop-again c =
+    let then1 = c .before .before .before .before in
+    let loop = then1 .before .before .loop in
+    collect-none (loop .inv) (found then1) (broke c)
 
 item-at-requires : tie.Need-item-at-requires Inv-loop μ-loop
-item-at-requires c κs = import-here (c .before .before .before .before .before .before .loop .inv) (found (c .before .before .before .before)) (passed c)
+item-at-requires c κs =
+    let then1 = c .before .before .before .before in
+    let loop = then1 .before .before .loop in
+    import-here (loop .inv) (found then1) (passed c)
 
 name-of-requires : tie.Need-name-of-requires Inv-loop μ-loop
 name-of-requires c κs = c .item-at .ensures .named
@@ -65,10 +92,16 @@ loop-less-2 c = omega (arith, later (passed (c .before .before .before) .read), 
 
 loop-again-2 : tie.Need-loop-again-2 Inv-loop μ-loop
 loop-again-2 c =
-    let g = c .before .before .before .before .before .before .before .before .before .loop .inv in
-    let x = c .before .before .item-at .result in
-    let e = c .before .name-of .ensures in
-    collect-one g (found (c .before .before .before .before .before .before .before)) (passed (c .before .before .before)) (c .before .before .item-at .ensures) (⊎-elim (λ d. d .1 ∙ flag-lost g x e (d .0 .taken)) (λ d. d .1 ∙ flag-kept g x e (d .0 .left)) (c .if2 .came))
+    let name-of = c .before .name-of in
+    let item-at = c .before .before .item-at in
+    let after-known-told2 = c .before .before .before in
+    let then1 = after-known-told2 .before .before .before .before in
+    let loop = then1 .before .before .loop in
+    let g = loop .inv in
+    let x = item-at .result in
+    let e = name-of .ensures in
+    collect-one g (found then1) (passed after-known-told2) (item-at .ensures)
+    (⊎-elim (λ d. d .1 ∙ flag-lost g x e (d .0 .taken)) (λ d. d .1 ∙ flag-kept g x e (d .0 .left)) (c .if2 .came))
 
 same-length : tie.Need-same-length Inv-loop μ-loop
 same-length c = c .before .before .loop .inv .size
@@ -79,4 +112,5 @@ returns c = collected (c .before .before .loop .inv) (λ z. c .if1 .left (c .bef
 pub collect-imports-spec : {M : Type 1} → statement M
 collect-imports-spec =
     tie.close
-    (tie.spec Inv-loop μ-loop loop-holds kind-or-end-requires parse-import-requires (λ c. search needs) loop-less loop-again (λ c. search needs) item-at-requires name-of-requires mul-items room add-n loop-less-2 loop-again-2 same-length returns)
+    (tie.spec Inv-loop μ-loop loop-holds kind-or-end-requires parse-import-requires (λ c. search needs) loop-less loop-again (λ c. search needs)
+    item-at-requires name-of-requires mul-items room add-n loop-less-2 loop-again-2 same-length returns)

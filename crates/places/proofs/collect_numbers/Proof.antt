@@ -58,4 +58,5 @@ returns c = gathered (c .before .before .loop .inv) (λ z. c .if1 .left (c .befo
 pub collect-numbers-spec : {M : Type 1} → statement M
 collect-numbers-spec =
     tie.close
-    (tie.spec Inv-loop μ-loop loop-holds kind-or-end-requires integer-at-requires mul-items (λ c. room (c .before)) add-n next-requires loop-less loop-again same-length returns)
+    (tie.spec Inv-loop μ-loop loop-holds kind-or-end-requires integer-at-requires mul-items (λ c. room (c .before)) add-n next-requires loop-less loop-again
+    same-length returns)

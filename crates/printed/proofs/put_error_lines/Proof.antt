@@ -14,14 +14,11 @@ abbrev μ-loop : tie.MeasureT-loop
 pub put-error-lines-spec : {M : Type 1} → statement M
 put-error-lines-spec =
     tie.close
-    (tie.spec
-    Inv-loop
-    μ-loop
-    (λ c. lines-all)
-    (λ c κs. omega (arith, c .before .before .loop .inv .inside))
-    (λ c. omega (arith, c .before .before .before .before .before .loop .inv .inside))
-    (λ c. search needs)
-    (λ c. search needs)
-    (λ c. lines-more (c .before .before .before .before .before .loop .inv) (c .before .before .before .before .loop-test .taken) (c .before .before .put-error-line .ensures))
-    (λ c. c .before .loop .inv .size)
+    (tie.spec Inv-loop μ-loop (λ c. lines-all) (λ c κs. omega (arith, c .before .before .loop .inv .inside))
+    (λ c. let loop = c .before .before .before .before .before .loop in omega (arith, loop .inv .inside)) (λ c. search needs) (λ c. search needs)
+    (λ c.
+    let put-error-line = c .before .before .put-error-line in
+    let loop-test = c .before .before .before .before .loop-test in
+    let loop = c .before .before .before .before .before .loop in
+    lines-more (loop .inv) (loop-test .taken) (put-error-line .ensures)) (λ c. c .before .loop .inv .size)
     (λ c. lines-none (c .before .loop .inv) (c .loop-test .left)))

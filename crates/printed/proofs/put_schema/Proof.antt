@@ -10,10 +10,22 @@ use Rattle.printed.proofs.put_schema.Tie as tie
 
 returns : tie.Need-returns
 returns c =
-    refused-line (now (c .before .before .before .before .before .before .before .before .before .before .before .before .before .args .out)) (c .before .before .before .before .before .before .before .before .before .before .before .before .before .pre) (c .before .before .before .before .before .before .before .before .before .write .ensures) (c .before .before .before .before .before .number .given .1) (c .before .before .put-refusal .ensures)
+    let put-refusal = c .before .before .put-refusal in
+    let number = c .before .before .before .before .before .number in
+    let back8 = c .before .before .before .before .before .before .before .before in
+    let write = back8 .before .write in
+    let args = back8 .before .before .before .before .before .args in
+    let pre = back8 .before .before .before .before .before .pre in
+    refused-line (now (args .out)) pre (write .ensures) (number .given .1) (put-refusal .ensures)
 
 returns-2 : tie.Need-returns-2
-returns-2 c = written-text (now (c .before .before .before .before .before .before .before .before .before .args .out)) (c .before .before .before .before .before .before .before .before .before .pre) (c .before .before .before .before .before .write .ensures) (omega arith) (c .before .n .given .1)
+returns-2 c =
+    let n = c .before .n in
+    let write = c .before .before .before .before .before .write in
+    let back8 = c .before .before .before .before .before .before .before .before in
+    let args = back8 .before .args in
+    let pre = back8 .before .pre in
+    written-text (now (args .out)) pre (write .ensures) (omega arith) (n .given .1)
 
 pub put-schema-spec : {M : Type 1} → statement M
 put-schema-spec =

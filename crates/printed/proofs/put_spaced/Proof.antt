@@ -7,7 +7,10 @@ use Rattle.printed.proofs.put_spaced.Tie as tie
 
 returns : tie.Need-returns
 unfolding spaced
-returns c = then (c .before .before .before .before .before .before .put-byte .ensures) (c .before .before .put-decimal .ensures)
+returns c =
+    let put-decimal = c .before .before .put-decimal in
+    let put-byte = c .before .before .before .before .before .before .put-byte in
+    then (put-byte .ensures) (put-decimal .ensures)
 
 pub put-spaced-spec : {M : Type 1} → statement M
 put-spaced-spec = tie.close (tie.spec (λ c κs. search needs) (λ c κs. search needs) (λ c. wrote-length (returns c)) returns)

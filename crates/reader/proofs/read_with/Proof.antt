@@ -6,15 +6,24 @@ use Rattle.reader.proofs.read_with.Statement.{statement}
 use Rattle.reader.proofs.read_with.Tie as tie
 
 order-imports-requires : tie.Need-order-imports-requires
-order-imports-requires c κs = let p = c .before .before .before .before .before .before .before .pre in (p .checked .wf, record { list = p .order; work = p .work })
+order-imports-requires c κs =
+    let pre = c .before .before .before .before .before .before .before .pre in
+    (pre .checked .wf, record { list = pre .order; work = pre .work })
 
 slice-aggregate-read-ordered : tie.Need-slice-aggregate-read-ordered
-slice-aggregate-read-ordered c = sym (length-take-le _ _ (c .before .before .before .before .before .before .order-imports .ensures .few))
+slice-aggregate-read-ordered c =
+    let order-imports = c .before .before .before .before .before .before .order-imports in
+    sym (length-take-le _ _ (order-imports .ensures .few))
 
 read-ordered-requires : tie.Need-read-ordered-requires
 read-ordered-requires c κs =
-    let p = c .before .before .before .before .before .before .before .before .before .before .before .before .before .before .before .before .pre in
-    record { checked = p .checked; orders = c .before .before .before .before .before .before .before .before .order-imports .ensures .orders; list = p .list; work = search needs }
+    let back8 = c .before .before .before .before .before .before .before .before in
+    let order-imports = back8 .order-imports in
+    let pre = back8 .before .before .before .before .before .before .before .before .pre in
+    record { checked = pre .checked; orders = order-imports .ensures .orders; list = pre .list; work = search needs }
 
 pub read-with-spec : {M : Type 1} → statement M
-read-with-spec = tie.close (tie.spec order-imports-requires (λ c. search needs) slice-aggregate-read-ordered read-ordered-requires (λ c. search needs) (λ c. search needs) (λ c. search needs) (λ c. search needs) (λ c. search needs))
+read-with-spec =
+    tie.close
+    (tie.spec order-imports-requires (λ c. search needs) slice-aggregate-read-ordered read-ordered-requires (λ c. search needs) (λ c. search needs)
+    (λ c. search needs) (λ c. search needs) (λ c. search needs))

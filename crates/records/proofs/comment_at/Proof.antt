@@ -10,8 +10,12 @@ payload-at-requires c κs = (rw (c .if1 .taken) at (c .before .before .pre)) .0
 
 returns : tie.Need-returns
 returns c =
-    let here = rw (c .before .if1 .taken) at (c .before .before .before .pre) in
-    rw (c .before .if1 .taken, c .payload-at .ensures) (comment-there (here .0) (here .1) (all-bytes (c .before .before .before .args .t .now) λ i. omega (arith, c .before .before .shared-slice-known .given i)))
+    let if1 = c .before .if1 in
+    let shared-slice-known = c .before .before .shared-slice-known in
+    let pre = c .before .before .before .pre in
+    let args = c .before .before .before .args in
+    let here = rw (if1 .taken) at pre in
+    rw (if1 .taken, c .payload-at .ensures) (comment-there (here .0) (here .1) (all-bytes (args .t .now) λ i. omega (arith, shared-slice-known .given i)))
 
 returns-2 : tie.Need-returns-2
 returns-2 c = rw (c .before .if1 .left) comment-absent

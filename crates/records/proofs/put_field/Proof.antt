@@ -4,7 +4,10 @@ use Rattle.records.proofs.put_field.Statement.{statement}
 use Rattle.records.proofs.put_field.Tie as tie
 
 returns : tie.Need-returns
-returns c = then (c .before .before .before .before .before .before .put-field-record .ensures) (c .before .before .put-part .ensures)
+returns c =
+    let put-part = c .before .before .put-part in
+    let put-field-record = c .before .before .before .before .before .before .put-field-record in
+    then (put-field-record .ensures) (put-part .ensures)
 
 pub put-field-spec : {M : Type 1} → statement M
 put-field-spec =

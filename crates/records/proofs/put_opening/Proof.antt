@@ -13,7 +13,13 @@ cast-put-head : tie.Need-cast-put-head
 cast-put-head c = record { fits = omega (arith, whole-short (c .before .before .comment-at .ensures .whole)) }
 
 returns-2 : tie.Need-returns-2
-returns-2 c = rw (opening (c .before .before .before .before .before .before .before .before .before .comment-at .ensures) (c .before .before .before .before .before .before .before .before .if1 .left)) at (put-record 101 0 0 (c .before .before .before .before .before .before .put-head .ensures) (c .before .before .put-slice .ensures) refl)
+returns-2 c =
+    let put-slice = c .before .before .put-slice in
+    let put-head = c .before .before .before .before .before .before .put-head in
+    let back8 = c .before .before .before .before .before .before .before .before in
+    let if1 = back8 .if1 in
+    let comment-at = back8 .before .comment-at in
+    rw (opening (comment-at .ensures) (if1 .left)) at (put-record 101 0 0 (put-head .ensures) (put-slice .ensures) refl)
 
 pub put-opening-spec : {M : Type 1} → statement M
 put-opening-spec =

@@ -4,7 +4,10 @@ use Rattle.records.proofs.put_sized.Statement.{statement}
 use Rattle.records.proofs.put_sized.Tie as tie
 
 returns : tie.Need-returns
-returns c = then (c .before .before .before .before .before .before .put-u16 .ensures) (c .before .before .put-slice .ensures)
+returns c =
+    let put-slice = c .before .before .put-slice in
+    let put-u16 = c .before .before .before .before .before .before .put-u16 in
+    then (put-u16 .ensures) (put-slice .ensures)
 
 pub put-sized-spec : {M : Type 1} → statement M
 put-sized-spec =

@@ -13,4 +13,7 @@ abbrev μ-loop : tie.MeasureT-loop
 μ-loop table₀ buffer₀ n₀ table buffer n = 1000000 - n
 
 pub answer-each-spec : {M : Type 1} → statement M
-answer-each-spec = tie.close (tie.spec Inv-loop μ-loop (λ c. (refl, refl)) (λ c κs. search needs) (λ c. search needs) (λ c. search needs) (λ c. search needs) (λ c. search needs) (λ c. search needs) (λ c. search needs) (λ c. search needs) (λ c. search needs) (λ c. search needs))
+answer-each-spec =
+    tie.close
+    (tie.spec Inv-loop μ-loop (λ c. (refl, refl)) (λ c κs. search needs) (λ c. search needs) (λ c. search needs) (λ c. search needs) (λ c. search needs)
+    (λ c. search needs) (λ c. search needs) (λ c. search needs) (λ c. search needs) (λ c. search needs))

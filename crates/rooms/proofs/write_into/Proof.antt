@@ -6,4 +6,7 @@ use Rattle.rooms.proofs.write_into.Statement.{statement}
 use Rattle.rooms.proofs.write_into.Tie as tie
 
 pub write-into-spec : {M : Type 1} → statement M
-write-into-spec = tie.close (tie.spec (λ c. search needs) (λ c. simp length-take (omega arith)) (λ c κs. search needs) (λ c. search needs) (λ c κs. search needs) (λ c. search needs) (λ c. search needs) (λ c κs. search needs) (λ c. search needs) (λ c. search needs) (λ c. search needs) (λ c. search needs))
+write-into-spec =
+    tie.close
+    (tie.spec (λ c. search needs) (λ c. simp length-take (omega arith)) (λ c κs. search needs) (λ c. search needs) (λ c κs. search needs) (λ c. search needs)
+    (λ c. search needs) (λ c κs. search needs) (λ c. search needs) (λ c. search needs) (λ c. search needs) (λ c. search needs))

@@ -26,8 +26,11 @@ after-name-requires c κs = sized-at (c .before .before)
 returns-2 : tie.Need-returns-2
 unfolding isCustom
 returns-2 c =
-    rw (sized-at (c .before .before .before .before), ← c .before .before .before .u16-at .ensures, eq-eqb _ _ (c .before .before .if2 .taken), ← c .before .after-name .ensures)
-    (c .is-name .ensures)
+    let after-name = c .before .after-name in
+    let if2 = c .before .before .if2 in
+    let u16-at = c .before .before .before .u16-at in
+    let else1 = c .before .before .before .before in
+    rw (sized-at else1, ← u16-at .ensures, eq-eqb _ _ (if2 .taken), ← after-name .ensures) (c .is-name .ensures)
 
 name-of-requires : tie.Need-name-of-requires
 name-of-requires c κs = sized-at (c .before .before)
@@ -35,32 +38,31 @@ name-of-requires c κs = sized-at (c .before .before)
 returns-3 : tie.Need-returns-3
 unfolding isCustom
 returns-3 c =
-    rw (
-      sized-at (c .before .before .before .before .before),
-      ← c .before .before .before .before .u16-at .ensures,
-      ne-eqb _ _ (c .before .before .before .if2 .left),
-      ← c .before .before .name-of .ensures,
-      ← c .before .is-name2 .ensures,
-    )
-    (search choice)
+    let is-name2 = c .before .is-name2 in
+    let name-of = c .before .before .name-of in
+    let if2 = c .before .before .before .if2 in
+    let u16-at = c .before .before .before .before .u16-at in
+    let else1 = c .before .before .before .before .before in
+    rw (sized-at else1, ← u16-at .ensures, ne-eqb _ _ (if2 .left), ← name-of .ensures, ← is-name2 .ensures) (search choice)
 
 after-name-requires-2 : tie.Need-after-name-requires-2
-after-name-requires-2 c κs = sized-at (c .before .before .before .before .before)
+after-name-requires-2 c κs =
+    let else1 = c .before .before .before .before .before in
+    sized-at else1
 
 returns-4 : tie.Need-returns-4
 unfolding isCustom
 returns-4 c =
-    rw (
-      sized-at (c .before .before .before .before .before .before .before),
-      ← c .before .before .before .before .before .before .u16-at .ensures,
-      ne-eqb _ _ (c .before .before .before .before .before .if2 .left),
-      ← c .before .before .before .before .name-of .ensures,
-      ← c .before .before .before .is-name2 .ensures,
-      ← c .before .after-name2 .ensures,
-    )
-    (search choice)
+    let after-name2 = c .before .after-name2 in
+    let is-name2 = c .before .before .before .is-name2 in
+    let name-of = c .before .before .before .before .name-of in
+    let if2 = c .before .before .before .before .before .if2 in
+    let u16-at = c .before .before .before .before .before .before .u16-at in
+    let else1 = c .before .before .before .before .before .before .before in
+    rw (sized-at else1, ← u16-at .ensures, ne-eqb _ _ (if2 .left), ← name-of .ensures, ← is-name2 .ensures, ← after-name2 .ensures) (search choice)
 
 pub is-custom-spec : {M : Type 1} → statement M
 is-custom-spec =
     tie.close
-    (tie.spec (λ c κs. search needs) returns u16-at-requires after-name-requires (λ c κs. search needs) returns-2 name-of-requires (λ c κs. search needs) returns-3 after-name-requires-2 (λ c κs. search needs) returns-4)
+    (tie.spec (λ c κs. search needs) returns u16-at-requires after-name-requires (λ c κs. search needs) returns-2 name-of-requires (λ c κs. search needs)
+    returns-3 after-name-requires-2 (λ c κs. search needs) returns-4)

@@ -12,7 +12,10 @@ returns c = rw (sym (c .before .may-follow .ensures) ∙ not-true _ (c .if1 .tak
 returns-2 : tie.Need-returns-2
 unfolding isRight
 returns-2 c =
-    rw (sym (c .before .before .before .may-follow .ensures) ∙ not-false _ (c .before .before .if1 .left), sym (c .before .is-payload .ensures) ∙ not-true _ (c .if2 .taken))
+    let is-payload = c .before .is-payload in
+    let if1 = c .before .before .if1 in
+    let may-follow = c .before .before .before .may-follow in
+    rw (sym (may-follow .ensures) ∙ not-false _ (if1 .left), sym (is-payload .ensures) ∙ not-true _ (c .if2 .taken))
 
 returns-3 : tie.Need-returns-3
 unfolding isRight

@@ -33,4 +33,5 @@ returns-2 c = search ends-left
 pub last-part-spec : {M : Type 1} → statement M
 last-part-spec =
     tie.close
-    (tie.spec Inv-loop μ-loop loop-holds (search needs) (search needs) (search needs) (search needs) (search needs) (search needs) (search needs) loop-again (search needs) loop-again-2 (search needs) loop-again-3 (search needs) (search needs) (search needs) (search needs) returns returns-2)
+    (tie.spec Inv-loop μ-loop loop-holds (search needs) (search needs) (search needs) (search needs) (search needs) (search needs) (search needs) loop-again
+    (search needs) loop-again-2 (search needs) loop-again-3 (search needs) (search needs) (search needs) (search needs) returns returns-2)

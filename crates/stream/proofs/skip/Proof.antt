@@ -14,7 +14,10 @@ abbrev μ-loop : tie.MeasureT-loop
 
 sub-left : tie.Need-sub-left Inv-loop μ-loop
 sub-left c =
-    omega (arith, c .before .before .before .read-some .ensures, c .before .before .before .before .before .least .ensures, length-take (c .before .before .before .before .before .least .result) (c .before .before .before .before .before .before .before .loop .spare))
+    let read-some = c .before .before .before .read-some in
+    let least = c .before .before .before .before .before .least in
+    let loop = c .before .before .before .before .before .before .before .loop in
+    omega (arith, read-some .ensures, least .ensures, length-take (least .result) (loop .spare))
 
 pub skip-spec : {M : Type 1} → statement M
 skip-spec =

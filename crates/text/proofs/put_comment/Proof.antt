@@ -26,13 +26,20 @@ part-put-paragraph-end c =
     omega (arith, commenting-room (d .before .before .loop .inv) (d .before .loop-test .taken), d .u16-at .ensures)
 
 loop-less : tie.Need-loop-less Inv-loop μ-loop
-loop-less c = omega (arith, c .before .before .before .before .before .before .before .before .before .before .loop-test .taken)
+loop-less c =
+    let back8 = c .before .before .before .before .before .before .before .before in
+    let loop-test = back8 .before .before .loop-test in
+    omega (arith, loop-test .taken)
 
 loop-again : tie.Need-loop-again Inv-loop μ-loop
 loop-again c =
-    let d = c .before .before .before .before .before .before .before in
-    let e = d .before .before in
-    commenting-more (e .before .before .loop .inv) (e .before .loop-test .taken) (omega (arith, e .u16-at .ensures)) (d .put-mark .ensures) (c .before .before .put-paragraph .ensures)
+    let put-paragraph = c .before .before .put-paragraph in
+    let put-mark = c .before .before .before .before .before .before .before .put-mark in
+    let back8 = c .before .before .before .before .before .before .before .before in
+    let u16-at = back8 .before .u16-at in
+    let loop-test = back8 .before .before .loop-test in
+    let loop = back8 .before .before .before .loop in
+    commenting-more (loop .inv) (loop-test .taken) (omega (arith, u16-at .ensures)) (put-mark .ensures) (put-paragraph .ensures)
 
 returns : tie.Need-returns Inv-loop μ-loop
 returns c = commenting-done (c .before .loop .inv) (c .loop-test .left)

@@ -13,7 +13,9 @@ returns c =
     no-comment (now (a .indentation)) (now (a .p)) (c .if1 .taken)
 
 put-comment-requires : tie.Need-put-comment-requires
-put-comment-requires c κs = (c .before .before .before .before .before .before .pre .0, rw (tail-part _ 2) (c .before .before .before .before .before .before .pre .2))
+put-comment-requires c κs =
+    let pre = c .before .before .before .before .before .before .pre in
+    (pre .0, rw (tail-part _ 2) (pre .2))
 
 returns-2 : tie.Need-returns-2
 returns-2 c = rw (tail-part _ 2) at (c .before .before .put-comment .ensures)

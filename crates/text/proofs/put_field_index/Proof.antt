@@ -7,7 +7,12 @@ use Rattle.text.proofs.put_field_index.Tie as tie
 
 returns : tie.Need-returns
 unfolding fieldIndex
-returns c = then (then (c .before .before .before .before .before .before .before .before .before .before .put-slice .ensures) (c .before .before .before .before .before .before .put-decimal .ensures)) (c .before .before .put-byte .ensures)
+returns c =
+    let put-byte = c .before .before .put-byte in
+    let put-decimal = c .before .before .before .before .before .before .put-decimal in
+    let back8 = c .before .before .before .before .before .before .before .before in
+    let put-slice = back8 .before .before .put-slice in
+    then (then (put-slice .ensures) (put-decimal .ensures)) (put-byte .ensures)
 
 pub put-field-index-spec : {M : Type 1} → statement M
 put-field-index-spec =

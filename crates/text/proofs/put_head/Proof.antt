@@ -12,22 +12,36 @@ after-name-requires c κs = head-parts (c .before .before .pre) .sized
 
 put-counted-requires : tie.Need-put-counted-requires
 put-counted-requires c κs =
-    let h = head-parts (c .before .before .before .before .before .pre) in
-    (omega arith, rw (c .before .before .after-name .ensures) (h .room), rw (c .before .before .after-name .ensures) (h .paragraphs))
+    let after-name = c .before .before .after-name in
+    let pre = c .before .before .before .before .before .pre in
+    let h = head-parts pre in
+    (omega arith, rw (after-name .ensures) (h .room), rw (after-name .ensures) (h .paragraphs))
 
 name-of-requires : tie.Need-name-of-requires
-name-of-requires c κs = head-parts (c .before .before .before .before .before .before .before .before .before .before .before .before .before .pre) .sized
+name-of-requires c κs =
+    let back8 = c .before .before .before .before .before .before .before .before in
+    let pre = back8 .before .before .before .before .before .pre in
+    head-parts pre .sized
 
 put-pascal-requires : tie.Need-put-pascal-requires
-put-pascal-requires c κs = rw (c .name-of .ensures) (head-parts (c .before .before .before .before .before .before .before .before .before .before .before .before .before .before .pre) .short)
+put-pascal-requires c κs =
+    let back8 = c .before .before .before .before .before .before .before .before in
+    let pre = back8 .before .before .before .before .before .before .pre in
+    rw (c .name-of .ensures) (head-parts pre .short)
 
 returns : tie.Need-returns
 unfolding headText
 returns c =
-    let d = c .before .before .before .before .before .before .before .before .before .before .before .before .before .before .before .before in
-    then
-    (then (then (rw (d .before .before .before .after-name .ensures) at (d .put-counted .ensures)) (c .before .before .before .before .before .before .before .before .before .before .before .before .put-keyword .ensures)) (rw (c .before .before .before .before .before .before .before .before .name-of .ensures) at (c .before .before .before .before .before .before .before .put-pascal .ensures)))
-    (c .before .before .put-slice .ensures)
+    let put-slice = c .before .before .put-slice in
+    let put-pascal = c .before .before .before .before .before .before .before .put-pascal in
+    let back8 = c .before .before .before .before .before .before .before .before in
+    let name-of = back8 .name-of in
+    let put-keyword = back8 .before .before .before .before .put-keyword in
+    let back16 = back8 .before .before .before .before .before .before .before .before in
+    let put-counted = back16 .put-counted in
+    let after-name = back16 .before .before .before .after-name in
+    then (then (then (rw (after-name .ensures) at (put-counted .ensures)) (put-keyword .ensures)) (rw (name-of .ensures) at (put-pascal .ensures)))
+    (put-slice .ensures)
 
 pub put-head-spec : {M : Type 1} → statement M
 put-head-spec =

@@ -10,15 +10,28 @@ use Rattle.text.proofs.put_import.Tie as tie
 returns : tie.Need-returns
 unfolding importText
 returns c =
-    let d = c .before .before .before .before .before .before in
-    wrote-yes _ _ _ (sym (d .is-inferred .ensures) ∙ c .before .before .before .before .before .if1 .taken) (then (then (d .before .before .before .before .before .before .before .put-slice .ensures) (d .before .before .before .put-slice2 .ensures)) (c .before .before .put-slice3 .ensures))
+    let put-slice3 = c .before .before .put-slice3 in
+    let if1 = c .before .before .before .before .before .if1 in
+    let is-inferred = c .before .before .before .before .before .before .is-inferred in
+    let back8 = c .before .before .before .before .before .before .before .before in
+    let put-slice2 = back8 .before .put-slice2 in
+    let put-slice = back8 .before .before .before .before .before .put-slice in
+    wrote-yes _ _ _ (sym (is-inferred .ensures) ∙ if1 .taken) (then (then (put-slice .ensures) (put-slice2 .ensures)) (put-slice3 .ensures))
 
 returns-2 : tie.Need-returns-2
 unfolding importText
 returns-2 c =
-    let d = c .before .before .before .before .before .before .before .before .before .before .before .before .before .before in
-    wrote-no _ _ _ (sym (d .is-inferred .ensures) ∙ c .before .before .before .before .before .before .before .before .before .before .before .before .before .if1 .left)
-    (then (then (then (then (d .before .before .before .before .before .before .before .put-slice .ensures) (d .before .before .before .put-slice2 .ensures)) (c .before .before .before .before .before .before .before .before .before .before .put-slice4 .ensures)) (c .before .before .before .before .before .before .put-snake .ensures)) (c .before .before .put-byte .ensures))
+    let put-byte = c .before .before .put-byte in
+    let put-snake = c .before .before .before .before .before .before .put-snake in
+    let back8 = c .before .before .before .before .before .before .before .before in
+    let put-slice4 = back8 .before .before .put-slice4 in
+    let if1 = back8 .before .before .before .before .before .if1 in
+    let is-inferred = back8 .before .before .before .before .before .before .is-inferred in
+    let back16 = back8 .before .before .before .before .before .before .before .before in
+    let put-slice2 = back16 .before .put-slice2 in
+    let put-slice = back16 .before .before .before .before .before .put-slice in
+    wrote-no _ _ _ (sym (is-inferred .ensures) ∙ if1 .left)
+    (then (then (then (then (put-slice .ensures) (put-slice2 .ensures)) (put-slice4 .ensures)) (put-snake .ensures)) (put-byte .ensures))
 
 pub put-import-spec : {M : Type 1} → statement M
 put-import-spec =

@@ -18,16 +18,33 @@ loop-holds : tie.Need-loop-holds Inv-loop μ-loop
 loop-holds c = listing-begin (c .before .before .pre)
 
 u64-at-requires : tie.Need-u64-at-requires Inv-loop μ-loop
-u64-at-requires c κs = listing-room (c .before .before .before .before .before .before .loop .inv) (c .before .before .before .before .before .loop-test .taken)
+u64-at-requires c κs =
+    let loop-test = c .before .before .before .before .before .loop-test in
+    let loop = c .before .before .before .before .before .before .loop in
+    listing-room (loop .inv) (loop-test .taken)
 
 add-i : tie.Need-add-i Inv-loop μ-loop
-add-i c = omega (arith, listing-room (c .before .before .before .before .before .before .before .before .before .before .loop .inv) (c .before .before .before .before .before .before .before .before .before .loop-test .taken))
+add-i c =
+    let back8 = c .before .before .before .before .before .before .before .before in
+    let loop-test = back8 .before .loop-test in
+    let loop = back8 .before .before .loop in
+    omega (arith, listing-room (loop .inv) (loop-test .taken))
 
 loop-less : tie.Need-loop-less Inv-loop μ-loop
-loop-less c = omega (arith, c .before .before .before .before .before .before .before .before .before .loop-test .taken)
+loop-less c =
+    let back8 = c .before .before .before .before .before .before .before .before in
+    let loop-test = back8 .before .loop-test in
+    omega (arith, loop-test .taken)
 
 loop-again : tie.Need-loop-again Inv-loop μ-loop
-loop-again c = listing-more (c .before .before .before .before .before .before .before .before .before .before .loop .inv) (c .before .before .before .before .before .before .before .before .before .loop-test .taken) (c .before .before .before .u64-at .ensures) (c .before .before .before .before .before .before .before .put-byte .ensures) (c .before .before .put-decimal .ensures)
+loop-again c =
+    let put-decimal = c .before .before .put-decimal in
+    let u64-at = c .before .before .before .u64-at in
+    let put-byte = c .before .before .before .before .before .before .before .put-byte in
+    let back8 = c .before .before .before .before .before .before .before .before in
+    let loop-test = back8 .before .loop-test in
+    let loop = back8 .before .before .loop in
+    listing-more (loop .inv) (loop-test .taken) (u64-at .ensures) (put-byte .ensures) (put-decimal .ensures)
 
 returns : tie.Need-returns Inv-loop μ-loop
 returns c = listing-done (c .before .loop .inv) (c .loop-test .left)

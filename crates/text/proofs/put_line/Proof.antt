@@ -8,10 +8,12 @@ use Rattle.text.proofs.put_line.Tie as tie
 returns : tie.Need-returns
 unfolding lineText
 returns c =
-    let d = c .before .before in
-    let e = d .before .before .before .before in
-    let f = e .before .before .before .before in
-    then (then (then (f .before .before .before .before .before .put-slice .ensures) (f .put-slice2 .ensures)) (e .put-slice3 .ensures)) (d .put-byte .ensures)
+    let put-byte = c .before .before .put-byte in
+    let put-slice3 = c .before .before .before .before .before .before .put-slice3 in
+    let back8 = c .before .before .before .before .before .before .before .before in
+    let put-slice2 = back8 .before .before .put-slice2 in
+    let put-slice = back8 .before .before .before .before .before .before .before .put-slice in
+    then (then (then (put-slice .ensures) (put-slice2 .ensures)) (put-slice3 .ensures)) (put-byte .ensures)
 
 pub put-line-spec : {M : Type 1} → statement M
 put-line-spec =

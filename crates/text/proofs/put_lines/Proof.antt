@@ -21,12 +21,19 @@ sub-if1 : tie.Need-sub-if1 Inv-loop μ-loop
 sub-if1 c = omega (arith, next-end _ (c .before .loop-test .taken) (c .word-end2 .ensures), c .before .before .loop .inv .from)
 
 loop-less : tie.Need-loop-less Inv-loop μ-loop
-loop-less c = omega (arith, next-end _ (c .before .before .before .before .before .before .before .loop-test .taken) (c .before .before .before .before .before .before .word-end2 .ensures))
+loop-less c =
+    let word-end2 = c .before .before .before .before .before .before .word-end2 in
+    let loop-test = c .before .before .before .before .before .before .before .loop-test in
+    omega (arith, next-end _ (loop-test .taken) (word-end2 .ensures))
 
 loop-again : tie.Need-loop-again Inv-loop μ-loop
 loop-again c =
-    let d = c .before .before .before .before .before in
-    wrapping-leave (d .before .before .before .loop .inv) (d .before .before .loop-test .taken) (d .before .word-end2 .ensures) (d .if1 .taken) (c .before .before .put-line .ensures)
+    let put-line = c .before .before .put-line in
+    let if1 = c .before .before .before .before .before .if1 in
+    let word-end2 = c .before .before .before .before .before .before .word-end2 in
+    let loop-test = c .before .before .before .before .before .before .before .loop-test in
+    let loop = c .before .before .before .before .before .before .before .before .loop in
+    wrapping-leave (loop .inv) (loop-test .taken) (word-end2 .ensures) (if1 .taken) (put-line .ensures)
 
 loop-less-2 : tie.Need-loop-less-2 Inv-loop μ-loop
 loop-less-2 c = omega (arith, next-end _ (c .before .before .loop-test .taken) (c .before .word-end2 .ensures))

@@ -9,8 +9,11 @@ use Rattle.text.proofs.put_mark.Tie as tie
 returns : tie.Need-returns
 unfolding mark
 returns c =
-    let d = c .before .before in
-    wrote-yes _ _ _ (d .before .before .before .before .before .before .before .if1 .taken) (then (d .before .before .before .before .before .put-slice .ensures) (d .put-slice2 .ensures))
+    let put-slice2 = c .before .before .put-slice2 in
+    let put-slice = c .before .before .before .before .before .before .before .put-slice in
+    let back8 = c .before .before .before .before .before .before .before .before in
+    let if1 = back8 .before .if1 in
+    wrote-yes _ _ _ (if1 .taken) (then (put-slice .ensures) (put-slice2 .ensures))
 
 returns-2 : tie.Need-returns-2
 unfolding mark

@@ -11,4 +11,5 @@ returns c = one-line _ _ (omega arith) (c .before .before .put-line .ensures)
 pub put-paragraph-spec : {M : Type 1} → statement M
 put-paragraph-spec =
     tie.close
-    (tie.spec (λ c. search needs) (λ c. search needs) (λ c κs. search needs) (λ c. search needs) returns (λ c κs. search needs) (λ c. search needs) (λ c. search needs))
+    (tie.spec (λ c. search needs) (λ c. search needs) (λ c κs. search needs) (λ c. search needs) returns (λ c κs. search needs) (λ c. search needs)
+    (λ c. search needs))

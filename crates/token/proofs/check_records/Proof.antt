@@ -17,11 +17,22 @@ Inv-loop class t at₀ count₀ last₀ row₀ at count last row = Checking t at
 abbrev μ-loop : tie.MeasureT-loop
 μ-loop class t at₀ count₀ last₀ row₀ at count last row = length t - at
 
-fault-at : (c : tie.After-fault Inv-loop μ-loop) → c .fault .result ≡ faultOf (c .before .before .before .before .loop .last) (c .before .before .before .before .loop .row) (drop (c .before .before .before .before .loop .at) (now (c .before .before .before .before .before .before .args .t)))
+fault-at : (c : tie.After-fault Inv-loop μ-loop) →
+    let loop = c .before .before .before .before .loop in
+    let args = c .before .before .before .before .before .before .args in
+    c .fault .result ≡ faultOf (loop .last) (loop .row) (drop (loop .at) (now (args .t)))
 fault-at c = rw (part-from) at (c .fault .ensures)
 
-good-at : (c : tie.Else2 Inv-loop μ-loop) → Good (c .before .before .before .before .before .loop .last) (c .before .before .before .before .before .loop .row) (drop (c .before .before .before .before .before .loop .at) (now (c .before .before .before .before .before .before .before .args .t)))
-good-at c = checked-good (c .before .before .before .before .before .loop .inv) (c .before .before .before .before .loop-test .taken) (c .before .before .before .if1 .left) (fault-at (c .before)) (c .if2 .left)
+good-at : (c : tie.Else2 Inv-loop μ-loop) →
+    let loop = c .before .before .before .before .before .loop in
+    let args = c .before .before .before .before .before .before .before .args in
+    Good (loop .last) (loop .row) (drop (loop .at) (now (args .t)))
+good-at c =
+    let after-fault = c .before in
+    let if1 = after-fault .before .before .if1 in
+    let loop-test = after-fault .before .before .before .loop-test in
+    let loop = after-fault .before .before .before .before .loop in
+    checked-good (loop .inv) (loop-test .taken) (if1 .left) (fault-at after-fault) (c .if2 .left)
 
 loop-holds : tie.Need-loop-holds Inv-loop μ-loop
 loop-holds c = checking _ (c .before .pre .1)
@@ -30,10 +41,18 @@ returns : tie.Need-returns Inv-loop μ-loop
 returns c = checked-full (c .before .before .loop .inv) (c .before .loop-test .taken) (c .if1 .taken)
 
 fault-requires : tie.Need-fault-requires Inv-loop μ-loop
-fault-requires c κs = (c .before .before .before .before .before .pre .0, c .before .before .before .loop .inv .shallow)
+fault-requires c κs =
+    let loop = c .before .before .before .loop in
+    let pre = c .before .before .before .before .before .pre in
+    (pre .0, loop .inv .shallow)
 
 returns-2 : tie.Need-returns-2 Inv-loop μ-loop
-returns-2 c = checked-bad (c .before .before .before .before .before .loop .inv) (c .before .before .before .before .loop-test .taken) (c .before .before .before .if1 .left) (fault-at (c .before)) (c .if2 .taken)
+returns-2 c =
+    let after-fault = c .before in
+    let if1 = after-fault .before .before .if1 in
+    let loop-test = after-fault .before .before .before .loop-test in
+    let loop = after-fault .before .before .before .before .loop in
+    checked-bad (loop .inv) (loop-test .taken) (if1 .left) (fault-at after-fault) (c .if2 .taken)
 
 u32-at-requires : tie.Need-u32-at-requires Inv-loop μ-loop
 u32-at-requires c κs = rw part-from (omega (arith, good-at c .fits))
@@ -50,8 +69,16 @@ loop-less c = omega (arith, good-at (c .before .before .before .before) .fits, r
 loop-again : tie.Need-loop-again Inv-loop μ-loop
 unfolding tokenOf
 loop-again c =
-    rw (c .u16-at2 .ensures, c .before .before .before .u32-at .ensures, c .before .row-after .ensures, c .before .before .u16-at .ensures, part-from)
-    (checked-next (c .before .before .before .before .before .before .before .before .before .loop .inv) (c .before .before .before .before .before .before .before .before .loop-test .taken) (c .before .before .before .before .before .before .before .if1 .left) (fault-at (c .before .before .before .before .before)) (c .before .before .before .before .if2 .left))
+    let row-after = c .before .row-after in
+    let u16-at = c .before .before .u16-at in
+    let u32-at = c .before .before .before .u32-at in
+    let if2 = c .before .before .before .before .if2 in
+    let after-fault = c .before .before .before .before .before in
+    let if1 = after-fault .before .before .if1 in
+    let loop-test = after-fault .before .before .before .loop-test in
+    let loop = after-fault .before .before .before .before .loop in
+    rw (c .u16-at2 .ensures, u32-at .ensures, row-after .ensures, u16-at .ensures, part-from)
+    (checked-next (loop .inv) (loop-test .taken) (if1 .left) (fault-at after-fault) (if2 .left))
 
 returns-3 : tie.Need-returns-3 Inv-loop μ-loop
 returns-3 c = checked-end (c .before .loop .inv) (c .loop-test .left)
@@ -59,4 +86,5 @@ returns-3 c = checked-end (c .before .loop .inv) (c .loop-test .left)
 pub check-records-spec : {M : Type 1} → statement M
 check-records-spec =
     tie.close
-    (tie.spec Inv-loop μ-loop loop-holds returns (λ c. search needs) (λ c. search needs) (λ c. search needs) fault-requires returns-2 u32-at-requires u16-at-requires (λ c κs. search needs) (λ c. search needs) u16-at-requires-2 (λ c. search needs) (λ c. search needs) loop-less loop-again returns-3)
+    (tie.spec Inv-loop μ-loop loop-holds returns (λ c. search needs) (λ c. search needs) (λ c. search needs) fault-requires returns-2 u32-at-requires
+    u16-at-requires (λ c κs. search needs) (λ c. search needs) u16-at-requires-2 (λ c. search needs) (λ c. search needs) loop-less loop-again returns-3)

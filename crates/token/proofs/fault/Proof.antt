@@ -39,9 +39,16 @@ part-token-fault-end c = omega (arith, fits-at (c .before .before .before .befor
 
 returns-2 : tie.Need-returns-2
 unfolding faultOf tokenOf
-returns-2 c = rw (← c .before .before .before .before .before .before .before .is-whole .ensures, ← c .before .before .before .before .before .u16-at .ensures, ← c .before .before .before .before .u16-at2 .ensures, ← c .before .before .before .u32-at .ensures, ← c .before .before .u32-at2 .ensures) (search choice)
+returns-2 c =
+    let u32-at2 = c .before .before .u32-at2 in
+    let u32-at = c .before .before .before .u32-at in
+    let u16-at2 = c .before .before .before .before .u16-at2 in
+    let u16-at = c .before .before .before .before .before .u16-at in
+    let is-whole = c .before .before .before .before .before .before .before .is-whole in
+    rw (← is-whole .ensures, ← u16-at .ensures, ← u16-at2 .ensures, ← u32-at .ensures, ← u32-at2 .ensures) (search choice)
 
 pub fault-spec : {M : Type 1} → statement M
 fault-spec =
     tie.close
-    (tie.spec (λ c κs. search needs) returns u16-at-requires (λ c. search needs) u16-at-requires-2 u32-at-requires u32-at-requires-2 sub-token-fault part-token-fault-start part-token-fault-end (λ c κs. search needs) returns-2)
+    (tie.spec (λ c κs. search needs) returns u16-at-requires (λ c. search needs) u16-at-requires-2 u32-at-requires u32-at-requires-2 sub-token-fault
+    part-token-fault-start part-token-fault-end (λ c κs. search needs) returns-2)

@@ -6,7 +6,8 @@ use Rattle.token.proofs.integer_at.Statement.{statement}
 use Rattle.token.proofs.integer_at.Tie as tie
 
 u64-at-requires : tie.Need-u64-at-requires
-u64-at-requires c κs = omega (arith, wf-inside (c .before .pre .0) (c .before .pre .1), integer-size (c .before .pre .0) (c .before .pre .1) (c .before .pre .2))
+u64-at-requires c κs =
+    omega (arith, wf-inside (c .before .pre .0) (c .before .pre .1), integer-size (c .before .pre .0) (c .before .pre .1) (c .before .pre .2))
 
 returns : tie.Need-returns
 returns c = c .u64-at .ensures ∙ integer-is (c .before .before .pre .0) (c .before .before .pre .1) (c .before .before .pre .2)

@@ -27,7 +27,11 @@ unfolding isParagraph
 loop-holds c = record { inside = omega arith; left = search choice }
 
 loop-again : tie.Need-loop-again Inv-loop μ-loop
-loop-again c = spaced (c .before .before .before .loop .inv) (c .before .before .loop-test .taken) (omega (arith, c .before .shared-slice-known2 .given (c .before .before .before .loop .i))) (c .class-in .ensures)
+loop-again c =
+    let shared-slice-known2 = c .before .shared-slice-known2 in
+    let loop-test = c .before .before .loop-test in
+    let loop = c .before .before .before .loop in
+    spaced (loop .inv) (loop-test .taken) (omega (arith, shared-slice-known2 .given (loop .i))) (c .class-in .ensures)
 
 returns-3 : tie.Need-returns-3 Inv-loop μ-loop
 returns-3 c = spaced-end (c .before .loop .inv) (c .loop-test .left)
@@ -35,4 +39,5 @@ returns-3 c = spaced-end (c .before .loop .inv) (c .loop-test .left)
 pub is-paragraph-spec : {M : Type 1} → statement M
 is-paragraph-spec =
     tie.close
-    (tie.spec Inv-loop μ-loop returns returns-2 loop-holds (λ c. search needs) (λ c κs. search needs) (λ c. search needs) (λ c. search needs) loop-again returns-3)
+    (tie.spec Inv-loop μ-loop returns returns-2 loop-holds (λ c. search needs) (λ c κs. search needs) (λ c. search needs) (λ c. search needs) loop-again
+    returns-3)

@@ -16,7 +16,10 @@ Inv-loop class p i₀ i = Asking isPathByte p i (isPath p)
 abbrev μ-loop : tie.MeasureT-loop
 μ-loop class p i₀ i = length p - i
 
-small : (c : tie.After-class-in Inv-loop μ-loop) → getD (now (c .before .before .before .before .before .before .args .p)) (c .before .before .before .loop .i) 0 < 256
+small : (c : tie.After-class-in Inv-loop μ-loop) →
+    let loop = c .before .before .before .loop in
+    let args = c .before .before .before .before .before .before .args in
+    getD (now (args .p)) (loop .i) 0 < 256
 small c = omega (arith, c .before .shared-slice-known2 .given (c .before .before .before .loop .i))
 
 returns : tie.Need-returns Inv-loop μ-loop
@@ -28,10 +31,20 @@ unfolding isPath
 loop-holds c = record { inside = omega arith; left = search choice }
 
 returns-2 : tie.Need-returns-2 Inv-loop μ-loop
-returns-2 c = asked-no (c .before .before .before .before .loop .inv) (c .before .before .before .loop-test .taken) (class-fails class-path (small (c .before)) (c .before .class-in .ensures) (c .if2 .taken))
+returns-2 c =
+    let after-class-in = c .before in
+    let class-in = after-class-in .class-in in
+    let loop-test = after-class-in .before .before .loop-test in
+    let loop = after-class-in .before .before .before .loop in
+    asked-no (loop .inv) (loop-test .taken) (class-fails class-path (small after-class-in) (class-in .ensures) (c .if2 .taken))
 
 loop-again : tie.Need-loop-again Inv-loop μ-loop
-loop-again c = asked-yes (c .before .before .before .before .loop .inv) (c .before .before .before .loop-test .taken) (class-passes class-path (small (c .before)) (c .before .class-in .ensures) (c .if2 .left))
+loop-again c =
+    let after-class-in = c .before in
+    let class-in = after-class-in .class-in in
+    let loop-test = after-class-in .before .before .loop-test in
+    let loop = after-class-in .before .before .before .loop in
+    asked-yes (loop .inv) (loop-test .taken) (class-passes class-path (small after-class-in) (class-in .ensures) (c .if2 .left))
 
 returns-3 : tie.Need-returns-3 Inv-loop μ-loop
 returns-3 c = asked-all (c .before .loop .inv) (c .loop-test .left)
@@ -39,4 +52,5 @@ returns-3 c = asked-all (c .before .loop .inv) (c .loop-test .left)
 pub is-path-spec : {M : Type 1} → statement M
 is-path-spec =
     tie.close
-    (tie.spec Inv-loop μ-loop returns loop-holds (λ c. search needs) (λ c κs. search needs) returns-2 (λ c. search needs) (λ c. search needs) loop-again returns-3)
+    (tie.spec Inv-loop μ-loop returns loop-holds (λ c. search needs) (λ c κs. search needs) returns-2 (λ c. search needs) (λ c. search needs) loop-again
+    returns-3)

@@ -27,4 +27,5 @@ returns c = counted-all (c .before .loop .inv) (c .loop-test .left)
 pub paragraph-count-spec : {M : Type 1} → statement M
 paragraph-count-spec =
     tie.close
-    (tie.spec Inv-loop μ-loop loop-holds (λ c. search needs) (λ c. search needs) u16-at-requires (λ c. search needs) (λ c. search needs) (λ c. search needs) loop-again returns)
+    (tie.spec Inv-loop μ-loop loop-holds (λ c. search needs) (λ c. search needs) u16-at-requires (λ c. search needs) (λ c. search needs) (λ c. search needs)
+    loop-again returns)

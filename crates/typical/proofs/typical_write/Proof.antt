@@ -5,10 +5,16 @@ use Rattle.typical.proofs.typical_write.Statement.{statement}
 use Rattle.typical.proofs.typical_write.Tie as tie
 
 returns : tie.Need-returns
-returns c = case-told (c .before .before .before .before .before .write .ensures) (c .before .number .given .1)
+returns c =
+    let number = c .before .number in
+    let write = c .before .before .before .before .before .write in
+    case-told (write .ensures) (number .given .1)
 
 returns-2 : tie.Need-returns-2
-returns-2 c = case-told (c .before .before .before .before .before .write .ensures) (c .before .length .given .1)
+returns-2 c =
+    let length = c .before .length in
+    let write = c .before .before .before .before .before .write in
+    case-told (write .ensures) (length .given .1)
 
 pub typical-write-spec : {M : Type 1} → statement M
 typical-write-spec =

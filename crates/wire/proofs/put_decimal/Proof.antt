@@ -20,7 +20,10 @@ part-put-slice-end c = simp length-set (omega arith)
 
 returns : tie.Need-returns Inv-loop μ-loop
 returns c =
-    rw (digits-whole (c .before .before .before .before .before .before .before .loop .inv) (c .before .before .before .before .before .before .loop-test .left)) at (c .before .before .put-slice .ensures)
+    let put-slice = c .before .before .put-slice in
+    let loop-test = c .before .before .before .before .before .before .loop-test in
+    let loop = c .before .before .before .before .before .before .before .loop in
+    rw (digits-whole (loop .inv) (loop-test .left)) at (put-slice .ensures)
 
 pub put-decimal-spec : {M : Type 1} → statement M
 put-decimal-spec =

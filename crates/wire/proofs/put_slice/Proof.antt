@@ -28,9 +28,10 @@ copy-requires-2 c κs = simp (length-take, length-drop) (omega arith)
 
 returns-3 : tie.Need-returns-3
 returns-3 c =
-    let a = c .before .before .before .before .before .before .before .before .before .before .args in
-    wrote-clipped (now (a .out)) (a .at) (now (a .s)) (omega arith) (omega arith) (omega arith) (omega arith)
-    (c .before .before .before .copy2 .ensures) (c .advance2 .ensures)
+    let copy2 = c .before .before .before .copy2 in
+    let back8 = c .before .before .before .before .before .before .before .before in
+    let args = back8 .before .before .args in
+    wrote-clipped (now (args .out)) (args .at) (now (args .s)) (omega arith) (omega arith) (omega arith) (omega arith) (copy2 .ensures) (c .advance2 .ensures)
 
 pub put-slice-spec : {M : Type 1} → statement M
 put-slice-spec =

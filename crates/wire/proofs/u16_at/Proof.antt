@@ -8,8 +8,9 @@ use Rattle.wire.proofs.u16_at.Tie as tie
 
 returns : tie.Need-returns
 returns c =
-    let a = c .before .before .before .before .before .args in
-    omega (arith, u16-bytes (now (a .s)) (a .at) (c .before .before .before .before .before .pre))
+    let args = c .before .before .before .before .before .args in
+    let pre = c .before .before .before .before .before .pre in
+    omega (arith, u16-bytes (now (args .s)) (args .at) pre)
 
 pub u16-at-spec : {M : Type 1} → statement M
 u16-at-spec =

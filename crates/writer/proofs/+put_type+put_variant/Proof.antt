@@ -41,39 +41,64 @@ put-variant-below t = and 2 put-variant-kinds.ps (falls 2 put-variant-kinds.ps _
 
 pub +put-type+put-variant-spec : {M : Type 1} → statement M
 +put-type+put-variant-spec =
-    close
-    μ-put-type
-    μ-put-variant
-    (λ t. put-type-lts.spec
-    (put-variant-below t, put-variant.Post)
-    (put-type-at t)
-    put-type.Post
+    close μ-put-type μ-put-variant
+    (λ t. put-type-lts.spec (put-variant-below t, put-variant.Post) (put-type-at t) put-type.Post
     (λ c κs. (omega (arith, c .before .before .before .pre .0), c .before .before .before .pre .1))
-    (λ c. wrote-length (c .before .before .put-variant .ensures))
-    (λ c. c .before .before .put-variant .ensures))
-    λ t. put-variant-lts.spec
-    (kind-at-reads.Asked, kind-at-reads.Learnt, put-byte-reads.Asked, put-byte-reads.Learnt, put-type-below t, put-type.Post, payload-at-reads.Asked, payload-at-reads.Learnt, put-base-reads.Asked, put-base-reads.Learnt)
-    (put-variant-at t)
-    put-variant.Post
-    (λ c κs. omega (arith, type-record (c .before .before .pre .1 .stands) .whole))
-    (λ c κs. search needs)
-    (λ c. omega (arith, type-record (c .before .before .before .before .before .before .before .before .before .pre .1 .stands) .whole))
-    (λ c. let d = c .before .before .before .before .before in omega (arith, one-less (d .before .before .before .before .pre .1 .stands) (sym (d .before .kind-at .ensures) ∙ d .if1 .taken) (d .before .before .before .before .pre .1 .depth)))
+    (λ c. wrote-length (c .before .before .put-variant .ensures)) (λ c. c .before .before .put-variant .ensures)) λ t. put-variant-lts.spec (
+      kind-at-reads.Asked,
+      kind-at-reads.Learnt,
+      put-byte-reads.Asked,
+      put-byte-reads.Learnt,
+      put-type-below t,
+      put-type.Post,
+      payload-at-reads.Asked,
+      payload-at-reads.Learnt,
+      put-base-reads.Asked,
+      put-base-reads.Learnt,
+    ) (put-variant-at t) put-variant.Post (λ c κs. omega (arith, type-record (c .before .before .pre .1 .stands) .whole)) (λ c κs. search needs)
+    (λ c.
+    let back8 = c .before .before .before .before .before .before .before .before in
+    let pre = back8 .before .pre in
+    omega (arith, type-record (pre .1 .stands) .whole))
+    (λ c.
+    let d = c .before .before .before .before .before in
+    omega (
+      arith,
+      one-less (d .before .before .before .before .pre .1 .stands) (sym (d .before .kind-at .ensures) ∙ d .if1 .taken)
+          (d .before .before .before .before .pre .1 .depth),
+    ))
     (λ c κs.
     let d = c .before .before .before .before .before in
     let e = sym (d .before .kind-at .ensures) ∙ d .if1 .taken in
-    let f = one-less (d .before .before .before .before .pre .1 .stands) e (d .before .before .before .before .pre .1 .depth) in
-    (omega (arith, d .before .before .before .before .pre .0, f), record { stands = array-at (d .before .before .before .before .pre .1 .stands) e .inner; depth = omega (arith, f); few = omega (arith, f, d .before .before .before .before .pre .1 .few) }))
-    (λ c κs. search needs)
-    (λ c. wrote-length (then (then (c .before .before .before .before .before .before .before .before .before .before .put-byte .ensures) (c .before .before .before .before .before .before .put-type .ensures)) (c .before .before .put-byte2 .ensures)))
+    let f = one-less (d .before .before .before .before .pre .1 .stands) e (d .before .before .before .before .pre .1 .depth) in (
+      omega (arith, d .before .before .before .before .pre .0, f),
+      record {
+        stands = array-at (d .before .before .before .before .pre .1 .stands) e .inner;
+        depth = omega (arith, f);
+        few = omega (arith, f, d .before .before .before .before .pre .1 .few);
+      },
+    )) (λ c κs. search needs)
     (λ c.
-    let d = c .before .before .before .before .before .before .before .before .before .before .before .before in
-    rw (ap typeText (array-at (d .before .before .before .before .pre .1 .stands) (sym (d .before .kind-at .ensures) ∙ d .if1 .taken) .type))
-    (then (then (c .before .before .before .before .before .before .before .before .before .before .put-byte .ensures) (c .before .before .before .before .before .before .put-type .ensures)) (c .before .before .put-byte2 .ensures)))
-    (λ c κs. type-record (c .before .before .before .before .before .pre .1 .stands) .whole)
+    let put-byte2 = c .before .before .put-byte2 in
+    let at-put-type = c .before .before .before .before .before .before .put-type in
+    let back8 = c .before .before .before .before .before .before .before .before in
+    let put-byte = back8 .before .before .put-byte in
+    wrote-length (then (then (put-byte .ensures) (at-put-type .ensures)) (put-byte2 .ensures)))
+    (λ c.
+    let put-byte2 = c .before .before .put-byte2 in
+    let at-put-type = c .before .before .before .before .before .before .put-type in
+    let back8 = c .before .before .before .before .before .before .before .before in
+    let put-byte = back8 .before .before .put-byte in
+    let if1 = back8 .before .before .before .before .if1 in
+    let kind-at = back8 .before .before .before .before .before .kind-at in
+    let pre = back8 .before .before .before .before .before .before .before .before .pre in
+    rw (ap typeText (array-at (pre .1 .stands) (sym (kind-at .ensures) ∙ if1 .taken) .type))
+    (then (then (put-byte .ensures) (at-put-type .ensures)) (put-byte2 .ensures)))
+    (λ c κs. let pre = c .before .before .before .before .before .pre in type-record (pre .1 .stands) .whole)
     (λ c κs.
     let d = c .before .before in
-    rw (d .before .kind-at .ensures, c .payload-at .ensures) (base-at (d .before .before .before .before .pre .1 .stands) (λ e. d .if1 .left (d .before .kind-at .ensures ∙ e)) .right))
+    rw (d .before .kind-at .ensures, c .payload-at .ensures)
+    (base-at (d .before .before .before .before .pre .1 .stands) (λ e. d .if1 .left (d .before .kind-at .ensures ∙ e)) .right))
     (λ c. wrote-length (c .before .before .put-base .ensures))
     (λ c.
     let d = c .before .before .before .before .before in

@@ -14,10 +14,19 @@ payload-at-requires : tie.Need-payload-at-requires
 payload-at-requires c κs = type-record (c .before .before .before .pre) .whole
 
 u16-at-requires : tie.Need-u16-at-requires
-u16-at-requires c κs = rw (c .payload-at .ensures) (omega (arith, plain-size _ (plain-at (c .before .before .before .before .pre) (sym (c .before .before .kind-at .ensures) ∙ c .before .if1 .taken))))
+u16-at-requires c κs =
+    let if1 = c .before .if1 in
+    let kind-at = c .before .before .kind-at in
+    let pre = c .before .before .before .before .pre in
+    rw (c .payload-at .ensures) (omega (arith, plain-size _ (plain-at pre (sym (kind-at .ensures) ∙ if1 .taken))))
 
 returns : tie.Need-returns
-returns c = rw (unit-at (c .before .before .before .before .before .pre), ← c .before .before .before .kind-at .ensures, eq-eqb _ _ (c .before .before .if1 .taken), c .u16-at .ensures, c .before .payload-at .ensures)
+returns c =
+    let payload-at = c .before .payload-at in
+    let if1 = c .before .before .if1 in
+    let kind-at = c .before .before .before .kind-at in
+    let pre = c .before .before .before .before .before .pre in
+    rw (unit-at pre, ← kind-at .ensures, eq-eqb _ _ (if1 .taken), c .u16-at .ensures, payload-at .ensures)
 
 returns-2 : tie.Need-returns-2
 returns-2 c = rw (unit-at (c .before .before .before .pre), ← c .before .kind-at .ensures, ne-eqb _ _ (c .if1 .left))

@@ -18,13 +18,24 @@ loop-holds : tie.Need-loop-holds Inv-loop μ-loop
 loop-holds c = declaring-begin (c .before .before .pre)
 
 put-declaration-requires : tie.Need-put-declaration-requires Inv-loop μ-loop
-put-declaration-requires c κs = (c .before .before .before .before .before .before .loop .inv .outside, c .before .before .before .before .before .loop-test .taken)
+put-declaration-requires c κs =
+    let loop-test = c .before .before .before .before .before .loop-test in
+    let loop = c .before .before .before .before .before .before .loop in
+    (loop .inv .outside, loop-test .taken)
 
 loop-less : tie.Need-loop-less Inv-loop μ-loop
-loop-less c = omega (arith, c .before .before .before .before .before .before .before .before .loop-test .taken, c .before .before .put-declaration .ensures .onward)
+loop-less c =
+    let put-declaration = c .before .before .put-declaration in
+    let loop-test = c .before .before .before .before .before .before .before .before .loop-test in
+    omega (arith, loop-test .taken, put-declaration .ensures .onward)
 
 loop-again : tie.Need-loop-again Inv-loop μ-loop
-loop-again c = declaring-more (c .before .before .before .before .before .before .before .before .before .loop .inv) (c .before .before .before .before .before .before .put-blank .ensures) (c .before .before .put-declaration .ensures)
+loop-again c =
+    let put-declaration = c .before .before .put-declaration in
+    let put-blank = c .before .before .before .before .before .before .put-blank in
+    let back8 = c .before .before .before .before .before .before .before .before in
+    let loop = back8 .before .loop in
+    declaring-more (loop .inv) (put-blank .ensures) (put-declaration .ensures)
 
 returns : tie.Need-returns Inv-loop μ-loop
 returns c = declaring-done (c .before .loop .inv) (c .loop-test .left)

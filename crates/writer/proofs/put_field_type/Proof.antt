@@ -15,11 +15,20 @@ unfolding fieldType
 returns c = wrote-yes _ _ _ (sym (c .before .is-unit .ensures) ∙ c .if1 .taken) wrote-none
 
 put-type-requires : tie.Need-put-type-requires
-put-type-requires c κs = c .before .before .before .before .before .before .before .before .before .before .pre
+put-type-requires c κs =
+    let back8 = c .before .before .before .before .before .before .before .before in
+    let pre = back8 .before .before .pre in
+    pre
 
 returns-2 : tie.Need-returns-2
 unfolding fieldType
-returns-2 c = wrote-no _ _ _ (sym (c .before .before .before .before .before .before .before .before .before .before .is-unit .ensures) ∙ c .before .before .before .before .before .before .before .before .before .if1 .left) (then (c .before .before .before .before .before .before .put-slice .ensures) (c .before .before .put-type .ensures))
+returns-2 c =
+    let put-type = c .before .before .put-type in
+    let put-slice = c .before .before .before .before .before .before .put-slice in
+    let back8 = c .before .before .before .before .before .before .before .before in
+    let if1 = back8 .before .if1 in
+    let is-unit = back8 .before .before .is-unit in
+    wrote-no _ _ _ (sym (is-unit .ensures) ∙ if1 .left) (then (put-slice .ensures) (put-type .ensures))
 
 pub put-field-type-spec : {M : Type 1} → statement M
 put-field-type-spec =

@@ -14,7 +14,12 @@ put-declarations-requires : tie.Need-put-declarations-requires
 put-declarations-requires c κs = c .before .before .before .put-imports .ensures .outside
 
 returns : tie.Need-returns
-returns c = whole-text (c .before .before .before .before .before .before .before .before .before .before .put-opening .ensures) (c .before .before .before .before .before .before .put-imports .ensures) (c .before .before .put-declarations .ensures)
+returns c =
+    let put-declarations = c .before .before .put-declarations in
+    let put-imports = c .before .before .before .before .before .before .put-imports in
+    let back8 = c .before .before .before .before .before .before .before .before in
+    let put-opening = back8 .before .before .put-opening in
+    whole-text (put-opening .ensures) (put-imports .ensures) (put-declarations .ensures)
 
 pub put-schema-spec : {M : Type 1} → statement M
 put-schema-spec =
