@@ -1,5 +1,6 @@
 // The errors of a table in one collector, lent to each rule of the schema in turn: a rule writes from the end of the list that the collector holds,
 // and tells it the new end.
+#![tactic(auto)]
 ghost use Rattle.std.specs.Prelude.{◌≡◌, ◌≤◌, length};
 ghost use Rattle.token.specs.Places.{tokens_from};
 ghost use Rattle.places.specs.Imports.{Orders};

@@ -1,4 +1,5 @@
 // The rules of parser.rs over a checked token table. Each goes from a cursor to the places of what it read and the cursor past it, or to an error's number and place.
+#![tactic(auto)]
 ghost use Rattle.std.specs.Prelude.{◌≡◌, ◌≢◌, ◌<◌, eqb};
 ghost use Rattle.wire.specs.Pick.{pick};
 ghost use Rattle.token.specs.Kind.{k_left_square, k_struct, is_rule};

@@ -4,7 +4,7 @@ use mathlib.Core.Bool.{Bool, true, false, not, ◌&&◌}
 use mathlib.Core.List.{[]}
 use Prim.Native.Nat.{ℕ, suc, ◌+◌, ◌-◌, ◌/◌, ◌%◌, ◌≤◌, ◌<◌}
 use native.Mathlib.Omega.{arith}
-use borrow.Author.Tests.{lt-ltb, le-ltb, le-leb, eq-eqb, not_true, not-false}
+use borrow.Author.Tests.{lt-ltb, le-ltb, le-leb, eq-eqb, not-true, not-false}
 use lib.Dec.{ltb, eqb}
 use lib.ListN.{length, take, drop, length-take, length-drop, drop_of_length-le}
 use lib.Seq.{drop-drop}
@@ -73,7 +73,7 @@ module _ (p : Bytes) (h : 2 ≤ length p) where
 
     pub counted_not : not x ≡ true → false ≡ is_counted p
     unfolding is_counted
-    counted_not n = rw (le-leb 2 (length p) h, are_comment, not_true x n)
+    counted_not n = rw (le-leb 2 (length p) h, are_comment, not-true x n)
 
     pub counted-all : {count n : ℕ} → not x ≡ false → count ≡ u16_at p 0 → n ≡ length (paragraphs_of rest) → eqb count n ≡ is_counted p
     unfolding is_counted

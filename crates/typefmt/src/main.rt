@@ -1,4 +1,5 @@
 // Reads a token table on standard input and prints its canonical text, its errors, or the refusal.
+#![tactic(auto)]
 
 // One byte more than a table may have is read: that tells a table that is too long, and of an endless input no more is read.
 fn main() {

@@ -1,7 +1,7 @@
 -- What a definition by tests says where the tests are known: `search choice` at a goal `r ≡ pick test a b` finds the facts in the place's record.
 use mathlib.Core.Path.{◌≡◌, refl}
 use mathlib.Core.Bool.{Bool, true, false, ◌&&◌}
-use borrow.Author.Tests.{lt-ltb, le-ltb, le-leb, lt-leb, eq-eqb, ne_eqb, not_true, not-false}
+use borrow.Author.Tests.{lt-ltb, le-ltb, le-leb, lt-leb, eq-eqb, ne_eqb, not-true, not-false}
 use Rattle.wire.specs.Pick.{pick}
 
 pub pick_yes {ℓ} : {A : Type ℓ} (b : Bool) (r x y : A) → b ≡ true → r ≡ x → r ≡ pick b x y
@@ -29,4 +29,4 @@ pub and_second : (b x : Bool) → x ≡ false → (b && x) ≡ false
 and_second true x e = e
 and_second false x e = refl
 
-pub ruleset choice = (pick_yes, pick_no, and_yes, and_no, and_is, and_first, and_second, lt-ltb, le-ltb, le-leb, lt-leb, eq-eqb, ne_eqb, not_true, not-false)
+pub ruleset choice = (pick_yes, pick_no, and_yes, and_no, and_is, and_first, and_second, lt-ltb, le-ltb, le-leb, lt-leb, eq-eqb, ne_eqb, not-true, not-false)

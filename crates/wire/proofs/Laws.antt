@@ -1,19 +1,18 @@
 -- The laws of a write: it can be done in parts, keeps the buffer's length, writes nothing past the end, and where all fits it is the bytes laid
 -- over the buffer. At the end: what a public function learns that measures first and then writes or refuses with R8.
 use mathlib.Core.Path.{◌≡◌, refl, sym, ap, ◌∙◌}
-use mathlib.Core.List.{List, [], ◌∷◌, ◌++◌, append_assoc}
-use mathlib.Core.Bool.{Bool, true, false}
+use mathlib.Core.List.{[], ◌∷◌, ◌++◌, append_assoc}
+use mathlib.Core.Bool.{true, false}
 use Prim.Native.Nat.{ℕ, suc, ◌+◌, ◌-◌, ◌≤◌, ◌<◌, min}
 use native.Mathlib.Nat.{zero-add}
 use native.Mathlib.Omega.{arith}
 use lib.Dec.{leb}
-use lib.ListN.{length, set, take, drop, length-set, length-take, length-append, take-append-drop}
+use lib.ListN.{length, set, take, drop, length-set, length-take, take-append-drop}
 use lib.Seq.{set_out, sets, sets-eq, drop-drop}
 use borrow.Author.Tests.{le-leb, lt-leb}
 use borrow.Rule.Slice.PartMut.{put_mid}
 use Rattle.wire.specs.Bytes.{Bytes}
-use Rattle.wire.specs.Pick.{pick}
-use Rattle.wire.specs.Put.{Wrote, over, adv, next, laid}
+use Rattle.wire.specs.Put.{Wrote, over, adv, next}
 
 pub over-append : (a b o : Bytes) (at : ℕ) → over (over o at a) (adv at a) b ≡ over o at (a ++ b)
 unfolding over adv

@@ -1,8 +1,8 @@
 -- The laws of numbers as bytes: a number read where it was written, or written where it was read, is the same; its bytes and its decimal digits
 -- one at a time.
-use mathlib.Core.Path.{◌≡◌, refl, sym, ap, ◌∙◌}
+use mathlib.Core.Path.{◌≡◌, refl, ap, ◌∙◌}
 use mathlib.Core.Bool.{Bool, true, false}
-use mathlib.Core.List.{List, [], ◌∷◌, ◌++◌, append-nil}
+use mathlib.Core.List.{[], ◌∷◌, ◌++◌, append-nil}
 use Prim.Native.Nat.{ℕ, zero, suc, ◌+◌, ◌*◌, ◌-◌, ◌/◌, ◌%◌, ◌^◌, ◌≤◌, ◌<◌}
 use native.Mathlib.Nat.{pow-succ', pow-zero, one-mul, zero-add, mul_assoc}
 use native.Mathlib.Numerals.{sub-one, add-one}

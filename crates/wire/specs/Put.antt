@@ -1,5 +1,5 @@
 -- What a writer does: bytes laid over a lent buffer from a place on, clipped at the buffer's end, and the place past them.
-use Rattle.std.specs.Prelude.{◌≡◌, List, [], ◌∷◌, ◌++◌, ℕ, ◌+◌, min, leb, set, length, drop}
+use Rattle.std.specs.Prelude.{◌≡◌, [], ◌∷◌, ◌++◌, ℕ, ◌+◌, min, leb, set, length, drop}
 use Rattle.wire.specs.Bytes.{Bytes}
 use Rattle.wire.specs.Pick.{pick}
 

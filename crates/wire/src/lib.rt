@@ -1,4 +1,6 @@
 // The bytes underneath: writers of bytes and numbers into a lent buffer, and readers of little-endian numbers.
+#![tactic(auto)]
+
 ghost use Rattle.std.specs.Prelude.{◌≡◌, [], ◌∷◌, ◌+◌, ◌≤◌, ◌<◌, min, length};
 ghost use Rattle.wire.specs.Put.{Wrote};
 ghost use Rattle.wire.specs.Le.{le_bytes, u16_at, u32_at, u64_at};

@@ -1,6 +1,6 @@
 use mathlib.Core.Path.{refl, sym, ◌∙◌}
 use native.Mathlib.Omega.{arith}
-use borrow.Author.Tests.{not_true, not-false}
+use borrow.Author.Tests.{not-true, not-false}
 use Rattle.token.specs.Kind.{is_keyword}
 use Rattle.parser.proofs.Laws.{some_kind}
 use Rattle.parser.proofs.Heads.{comment_ends, keyword_fails, Begun, name_fails, left_fails, head}
@@ -46,7 +46,7 @@ returns-2 c =
     let kind-or-end = c.before.before.before.before.kind-or-end in
     let skip-token = c.before.before.before.before.before.before.skip-token in
     keyword_fails skip-token.ensures (rw (← kind-or-end.ensures) if1.false)
-    (rw (← kind-or-end.ensures, ← is-keyword.ensures) (not_true _ c.if2.true))
+    (rw (← kind-or-end.ensures, ← is-keyword.ensures) (not-true _ c.if2.true))
 
 next-requires : tie.Need-next-requires
 next-requires c κs =

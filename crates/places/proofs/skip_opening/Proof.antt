@@ -1,7 +1,7 @@
 -- `places::skip_opening` meets its contract, test by test.
 use mathlib.Core.Path.{◌≡◌, sym, ◌∙◌}
 use mathlib.Core.Bool.{true}
-use borrow.Author.Tests.{not_true, not-false}
+use borrow.Author.Tests.{not-true, not-false}
 use Rattle.token.specs.Kind.{is_keyword, k_comment}
 use Rattle.token.specs.Places.{tokens_from}
 use Rattle.grammar.specs.Error.{kind_at}
@@ -36,7 +36,7 @@ returns-2 c =
     let if1 = c.before.before.before.before.if1 in
     let kind-or-end = c.before.before.before.before.before.kind-or-end in
     opened_alone (sym kind-or-end.ensures ∙ if1.false) next.ensures
-    (rw (← kind-or-end2.ensures) (sym is-keyword.ensures ∙ not_true _ c.if2.true))
+    (rw (← kind-or-end2.ensures) (sym is-keyword.ensures ∙ not-true _ c.if2.true))
 
 start-at-requires : tie.Need-start-at-requires
 start-at-requires c κs = second_stands (comment c.before) c.before.before.before.before.next.ensures (keyword c.before)

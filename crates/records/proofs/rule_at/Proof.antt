@@ -1,12 +1,12 @@
 use mathlib.Core.Path.{sym, ◌∙◌}
-use borrow.Author.Tests.{not_true, not-false, eq-eqb, ne_eqb}
+use borrow.Author.Tests.{not-true, not-false, eq-eqb, ne_eqb}
 use Rattle.wire.specs.Pick.{pick}
 use borrow.Author.Rules.{rules}
 use Rattle.records.proofs.rule_at.Statement.{statement}
 use Rattle.records.proofs.rule_at.Tie as tie
 
 returns : tie.Need-returns
-returns c = rw (not_true c.before.before.args.there c.if1.true)
+returns c = rw (not-true c.before.before.args.there c.if1.true)
 
 returns-2 : tie.Need-returns-2
 unfolding pick

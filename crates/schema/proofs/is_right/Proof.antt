@@ -1,5 +1,5 @@
 use mathlib.Core.Path.{sym, ◌∙◌}
-use borrow.Author.Tests.{not_true, not-false}
+use borrow.Author.Tests.{not-true, not-false}
 use Rattle.schema.specs.Table.{is_right}
 use borrow.Author.Rules.{rules}
 use Rattle.schema.proofs.is_right.Statement.{statement}
@@ -7,7 +7,7 @@ use Rattle.schema.proofs.is_right.Tie as tie
 
 returns : tie.Need-returns
 unfolding is_right
-returns c = rw (sym c.before.may-follow.ensures ∙ not_true _ c.if1.true)
+returns c = rw (sym c.before.may-follow.ensures ∙ not-true _ c.if1.true)
 
 returns-2 : tie.Need-returns-2
 unfolding is_right
@@ -15,7 +15,7 @@ returns-2 c =
     let is-payload = c.before.is-payload in
     let if1 = c.before.before.if1 in
     let may-follow = c.before.before.before.may-follow in
-    rw (sym may-follow.ensures ∙ not-false _ if1.false, sym is-payload.ensures ∙ not_true _ c.if2.true)
+    rw (sym may-follow.ensures ∙ not-false _ if1.false, sym is-payload.ensures ∙ not-true _ c.if2.true)
 
 returns-3 : tie.Need-returns-3
 unfolding is_right

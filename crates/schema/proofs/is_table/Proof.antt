@@ -3,7 +3,7 @@ use native.Mathlib.Omega.{arith}
 use mathlib.Core.Path.{◌≡◌, sym, ◌∙◌}
 use mathlib.Core.Bool.{true}
 use lib.ListN.{length}
-use borrow.Author.Tests.{not_true, not-false}
+use borrow.Author.Tests.{not-true, not-false}
 use Rattle.schema.specs.Table.{is_right, is_schema_table}
 use Rattle.schema.specs.Walk.{kind_at, payload_at, WholeAt}
 use Rattle.schema.proofs.Judging.{Judging, judging, import_sized, judged_end, judged_cut, judged_whole, judged_wrong, judged_early, judged_next}
@@ -46,7 +46,7 @@ returns c =
     let is_whole_lem = c.before.is-whole in
     let loop-test = c.before.before.before.loop-test in
     let loop = c.before.before.before.before.loop in
-    judged_cut loop.invariant loop-test.true (sym is_whole_lem.ensures ∙ not_true _ c.if1.true)
+    judged_cut loop.invariant loop-test.true (sym is_whole_lem.ensures ∙ not-true _ c.if1.true)
 
 kind-at-requires : tie.Need-kind-at-requires invariant-loop decreases-loop
 kind-at-requires c κs = omega (arith, whole_here c)
@@ -67,7 +67,7 @@ returns-2 c =
     let kind_at = c.before.before.before.kind_at in
     let else1 = c.before.before.before.before in
     let loop = else1.before.before.before.before.loop in
-    judged_wrong loop.invariant (whole_here else1) (rw (kind_at.ensures, payload-at.ensures) at (sym is_right.ensures ∙ not_true _ c.if2.true))
+    judged_wrong loop.invariant (whole_here else1) (rw (kind_at.ensures, payload-at.ensures) at (sym is_right.ensures ∙ not-true _ c.if2.true))
 
 payload-at-requires-2 : tie.Need-payload-at-requires-2 invariant-loop decreases-loop
 payload-at-requires-2 c κs =
@@ -98,7 +98,7 @@ returns-3 c =
     let else1 = else2.before.before.before.before in
     let loop = else1.before.before.before.before.loop in
     judged_early loop.invariant (whole_here else1) (right-here else2)
-    (rw (kind_at.ensures, payload-at.ensures, payload-at2.ensures) at (sym is_later.ensures ∙ not_true _ c.if3.true))
+    (rw (kind_at.ensures, payload-at.ensures, payload-at2.ensures) at (sym is_later.ensures ∙ not-true _ c.if3.true))
 
 row-after-requires : tie.Need-row-after-requires invariant-loop decreases-loop
 row-after-requires c κs =

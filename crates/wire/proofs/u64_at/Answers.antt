@@ -1,0 +1,9 @@
+-- `wire::u64_at` meets its contract.
+use native.Mathlib.Omega.{arith}
+use Rattle.wire.proofs.Numbers.{le_at_halves}
+use Rattle.wire.proofs.u64_at.Goals as goal
+
+pub returns : goal.returns
+returns c =
+    let a = c.args in
+    omega (arith, le_at_halves 4 4 a.s.now a.at (omega arith))
