@@ -1,5 +1,6 @@
 // The names of schemas, after identifier.rs: the forms of a name and the order of two names.
 #![tactic(auto)]
+
 pub mod tables;
 
 ghost use Rattle.std.specs.Prelude.{◌≡◌, true, false, ◌||◌, ◌&&◌, ◌+◌, ◌≤◌, ◌<◌, eqb, length, get_or, take};

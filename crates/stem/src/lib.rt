@@ -1,5 +1,6 @@
 // The stem of a path, as Rust's standard library has it on Unix: a part of the path, never a copy.
 #![tactic(auto)]
+
 ghost use Rattle.std.specs.Prelude.{◌≡◌};
 ghost use Rattle.stem.specs.Stem.{kept, last_part, is_parent, last_dot, stem_of, import_name};
 ghost use Rattle.stem.specs.Part.{IsPart};
