@@ -18,7 +18,7 @@ use tables::{
 };
 
 // The next byte of a form, unless it ends; `at` and `state` are where the rest of it begins.
-#[derive(Drop)]
+#[derive(Clone, Copy, Drop)]
 struct Next {
     more: bool,
     byte: u8,
