@@ -1,5 +1,6 @@
 // Token tables: the check of document 01 (R1 to R7), and the walk over a table that passed it.
 #![tactic(auto)]
+
 ghost use Rattle.std.specs.Prelude.{◌≡◌, ◌≤◌, ◌<◌, true, length};
 ghost use Rattle.wire.specs.Le.{le_number};
 ghost use Rattle.identifier.specs.Byte.{class_of};
