@@ -1,8 +1,8 @@
 -- Two names and their joined name: its length, and its three parts written one after the other.
-use mathlib.Core.Path.{◌≡◌, refl, ap, sym, ◌∙◌}
+use mathlib.Core.Path.{◌≡◌, refl, sym, ◌∙◌}
 use mathlib.Core.Bool.{Bool, true, false, ◌&&◌, and-eq-true_iff}
-use mathlib.Core.List.{List, [], ◌∷◌, ◌++◌, append_assoc}
-use Prim.Native.Nat.{ℕ, suc, ◌+◌, ◌<◌, ◌≤◌}
+use mathlib.Core.List.{[], ◌∷◌}
+use Prim.Native.Nat.{ℕ, ◌+◌, ◌<◌, ◌≤◌}
 use native.Mathlib.Omega.{arith}
 use lib.Dec.{leb}
 use lib.ListN.{length, length-append}
@@ -13,7 +13,6 @@ use Rattle.wire.proofs.Laws.{parts, then}
 use Rattle.identifier.specs.Name.{is_name}
 use Rattle.identifier.specs.Join.{join_of}
 use Rattle.names.specs.Answer.{Answers, is_joinable}
-use Rattle.names.specs.declared.Answer.{Answer}
 use Rattle.names.specs.declared.Answer.TheVariants.{Written, Refused}
 use Rattle.names.proofs.Answers.{too_big, placed}
 

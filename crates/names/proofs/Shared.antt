@@ -1,14 +1,13 @@
 -- Relativizing: two namespaces are walked together while their names are the same, and the names after the common start are counted.
 use mathlib.Core.Path.{◌≡◌, refl, ap, ap₂, sym, ◌∙◌}
 use mathlib.Core.Bool.{Bool, true, false, ◌&&◌, and-eq-true_iff}
-use mathlib.Core.List.{List, [], ◌∷◌, ◌++◌}
+use mathlib.Core.List.{List, [], ◌∷◌}
 use Prim.Native.Nat.{ℕ, zero, suc, ◌+◌, ◌-◌, ◌<◌, ◌≤◌}
 use native.Mathlib.Omega.{arith}
-use lib.ListN.{length, take, drop, length-drop, take-append-drop}
+use lib.ListN.{length, take, drop, length-drop}
 use lib.Seq.{take_all}
 use Rattle.wire.specs.Bytes.{Bytes}
 use Rattle.wire.specs.Pick.{pick}
-use Rattle.wire.specs.Le.{le_at, u16_at}
 use Rattle.identifier.specs.Order.{same_name}
 use Rattle.names.specs.Answer.{answer_of, buffer_of, with_steps, Answers, Relatives}
 use Rattle.names.specs.declared.Answer.{Answer}
@@ -16,7 +15,7 @@ use Rattle.names.specs.declared.Relative.{Relative}
 use Rattle.names.specs.declared.Relative.TheVariants as relative
 use Rattle.names.specs.Namespace.{after_name, is_namespace, names_in, names_of, after_names, common, common_of, relative_of, steps_up}
 use Rattle.names.specs.Place.{name_at, Parted}
-use Rattle.names.proofs.Walk.{Holds, holds, holds_names, here, size, room, at_end_lem, after_is}
+use Rattle.names.proofs.Walk.{Holds, holds, holds_names, here, size, at_end_lem, after_is}
 
 pub few : (n : ℕ) (bs : Bytes) → length (names_in n bs) ≤ n
 few zero bs = omega arith

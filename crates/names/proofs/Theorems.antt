@@ -1,5 +1,5 @@
 -- The theorems on document 01's namespaces, and examples computed.
-use mathlib.Core.Path.{◌≡◌, refl, ap, sym, ◌∙◌}
+use mathlib.Core.Path.{◌≡◌, refl}
 use mathlib.Core.Bool.{Bool, true, false}
 use mathlib.Core.List.{List, [], ◌∷◌, ◌++◌}
 use Prim.Native.Nat.{ℕ, zero, suc, ◌<◌, ◌≤◌}
@@ -12,7 +12,7 @@ use Rattle.identifier.specs.Byte.{lower_of}
 use Rattle.identifier.specs.Name.{is_name}
 use Rattle.identifier.specs.Forms.{snake_of}
 use Rattle.identifier.specs.Order.{same_name, name_order}
-use Rattle.names.specs.Namespace.{first_name, after_name, starts_name, is_namespace, names_in, names_of}
+use Rattle.names.specs.Namespace.{first_name, after_name, starts_name, is_namespace, names_of}
 use Rattle.names.specs.Namespace.{after_names, text_of, common, common_of, relative_of, steps_up}
 use Rattle.names.proofs.Walk.{Holds, none, more, holds, holds_names}
 use Rattle.names.proofs.Shared.{few}

@@ -1,20 +1,19 @@
 -- A namespace that passed the check, name by name: what stands at a place, and what stands after it.
 use mathlib.Core.Path.{◌≡◌, refl, ap, sym, ◌∙◌}
 use mathlib.Core.Bool.{Bool, true, false, ◌&&◌, and-eq-true_iff}
-use mathlib.Core.List.{List, [], ◌∷◌, ◌++◌}
+use mathlib.Core.List.{List, [], ◌∷◌}
 use Prim.Native.Nat.{ℕ, zero, suc, ◌+◌, ◌-◌, ◌<◌, ◌≤◌}
-use native.Mathlib.Numerals.{sub-one}
 use native.Mathlib.Omega.{arith}
 use lib.Dec.{leb}
-use lib.ListN.{length, get_or, take, drop, length-take, length-drop, drop_of_length-le}
+use lib.ListN.{length, take, drop, length-take, length-drop, drop_of_length-le}
 use lib.Seq.{drop-cons, drop-drop}
-use borrow.Author.Tests.{leb-true, leb-false, le-leb, lt-leb}
+use borrow.Author.Tests.{leb-true, le-leb, lt-leb}
 use Rattle.wire.specs.Bytes.{Bytes}
 use Rattle.wire.specs.Le.{le_at, u16_at}
 use Rattle.wire.specs.Pick.{pick}
 use Rattle.identifier.specs.Name.{is_name}
 use Rattle.identifier.proofs.Good.{name_short}
-use Rattle.names.specs.Namespace.{first_name, after_name, starts_name, are_names, is_namespace, names_in, names_of, after_names}
+use Rattle.names.specs.Namespace.{first_name, after_name, starts_name, are_names, is_namespace, names_in}
 use Rattle.names.specs.Place.{name_at, end_of}
 
 -- bytes that are names
@@ -38,7 +37,8 @@ pub holds_names : {bs : Bytes} {names : List Bytes} (n : ℕ) → Holds bs names
 holds_names zero none h = (refl, refl)
 holds_names (suc n) none h = (refl, refl)
 holds_names zero (more s r) h = absurd (omega arith)
-holds_names (suc n) (more s r) h = let i = holds_names n r (omega arith) in (rw (s, are_names) i.0, rw i.1)
+holds_names (suc n) (more {b = b} {bs = bs} {names = names} s r) h =
+    let i = holds_names {bs = after_name (b ∷ bs)} {names = names} n r (omega arith) in (rw (s, are_names) i.0, rw i.1)
 
 -- the name at a place
 pub part-is : (ns : Bytes) (p : ℕ) {n : ℕ} → n ≡ u16_at ns p → take (p + 2 + n - (p + 2)) (drop (p + 2) ns) ≡ name_at ns p

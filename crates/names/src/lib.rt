@@ -1,5 +1,6 @@
 // Names and namespaces as a caller lends them: each function refuses what is no name or no namespace with R10, and what does not fit with R8.
 #![tactic(auto)]
+
 ghost use Rattle.std.specs.Prelude.{◌≡◌, true, ◌&&◌, ◌+◌, ◌<◌, ◌≤◌, length, take};
 ghost use Rattle.wire.specs.Le.{u16_at};
 ghost use Rattle.wire.specs.Put.{Wrote};

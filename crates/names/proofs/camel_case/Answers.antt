@@ -1,0 +1,16 @@
+-- `names::camel_case`: the form stored, or R10.
+use Rattle.identifier.proofs.Filled.{inside}
+use Rattle.names.proofs.Answers.{bad_input, stored, short}
+use Rattle.names.proofs.camel_case.Goals as goal
+
+pub camel-requires : goal.camel-requires
+camel-requires c = search short
+
+pub store_form-requires : goal.store_form-requires
+store_form-requires c = search inside
+
+pub returns-then-is_name : goal.returns-then-is_name
+returns-then-is_name c = search stored
+
+pub returns : goal.returns
+returns c = search bad_input

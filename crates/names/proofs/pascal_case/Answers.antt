@@ -1,0 +1,16 @@
+-- `names::pascal_case`: the form stored, or R10.
+use Rattle.identifier.proofs.Filled.{inside}
+use Rattle.names.proofs.Answers.{bad_input, stored, short}
+use Rattle.names.proofs.pascal_case.Goals as goal
+
+pub pascal-requires : goal.pascal-requires
+pascal-requires c = search short
+
+pub store_form-requires : goal.store_form-requires
+store_form-requires c = search inside
+
+pub returns-then-is_name : goal.returns-then-is_name
+returns-then-is_name c = search stored
+
+pub returns : goal.returns
+returns c = search bad_input
