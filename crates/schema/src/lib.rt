@@ -1,5 +1,6 @@
 // Schema tables: the check of document 01 (R9), and the walk over a table that passed it.
 #![tactic(auto)]
+
 ghost use Rattle.std.specs.Prelude.{◌≡◌, true, ◌+◌, ◌≤◌, ◌<◌, length};
 ghost use Rattle.identifier.specs.Byte.{class_of};
 ghost use Rattle.identifier.specs.Table.{table, Tables};
