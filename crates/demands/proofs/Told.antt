@@ -152,7 +152,7 @@ read_number {table} {before} {n = n} p = go (decode table) refl
     go (tokens ts) e = let q = (read_refusal table (length before) ts e (refused_as p)).0 in (omega arith, omega arith)
 
 -- Two derivations of a table's tokens are one.
-same-tokens : {ts us : List Token} → ◌≡◌ {A = Decoded} (tokens ts) (tokens us) → ts ≡ us
+same_tokens : {ts us : List Token} → ◌≡◌ {A = Decoded} (tokens ts) (tokens us) → ts ≡ us
 same_tokens h = cc
 
 pub one_derivation : {ts : List Token} {tree other : SchemaTree} → Derives ts tree → Derives ts other → tree ≡ other

@@ -167,7 +167,7 @@ module _ {t : Bytes} {c : Cursor} (k : Clear t c (declaration_from t c)) where
           }
 
 -- Declarations.
-encode-append : (xs ys : List Declaration) → encode_declarations (xs ++ ys) ≡ encode_declarations xs ++ encode_declarations ys
+encode_append : (xs ys : List Declaration) → encode_declarations (xs ++ ys) ≡ encode_declarations xs ++ encode_declarations ys
 encode_append [] ys = refl
 encode_append (x ∷ xs) ys = rw (encode_append xs ys) (simp append_assoc)
 

@@ -1,8 +1,8 @@
 -- There are never more errors than tokens, and 57,344 bytes hold those of any table.
-use Prim.Native.Nat.{ℕ, zero, suc, ◌+◌, ◌*◌, ◌≤◌, ◌<◌}
+use Prim.Native.Nat.{ℕ, zero, suc, ◌+◌, ◌*◌, ◌≤◌}
 use mathlib.Core.Path.{◌≡◌, refl, ap}
 use mathlib.Core.Bool.{Bool, true, false}
-use mathlib.Core.Option.{Option, none, some}
+use mathlib.Core.Option.{Option}
 use mathlib.Core.List.{List, [], ◌∷◌, ◌++◌}
 use native.Mathlib.Omega.{arith}
 use lib.Dec.{eqb}
@@ -13,7 +13,7 @@ use Rattle.wire.specs.Record.{head_bytes, record_bytes}
 use Rattle.wire.proofs.Numbers.{le_bytes-length}
 use Rattle.token.specs.Token.{Token, end_of}
 use Rattle.token.specs.Kind.{k_deleted, k_import, k_integer, k_right_curly}
-use Rattle.grammar.specs.Tree.{FieldTree, DeletedPart, HeadTree, DeclarationTree, ImportTree, each}
+use Rattle.grammar.specs.Tree.{FieldTree, DeletedPart, HeadTree, ImportTree, each}
 use Rattle.grammar.specs.Error.{Error, error_at, error_over, error_bytes, errors_bytes}
 use Rattle.grammar.specs.Meaning.{is_nameless, import_of}
 use Rattle.grammar.specs.Condition.{any_of, same_import, same_index, import_errors, index_errors}

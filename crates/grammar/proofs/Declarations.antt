@@ -13,10 +13,9 @@ use Rattle.token.specs.Token.{Token}
 use Rattle.token.specs.Kind.{is_keyword, k_comment, k_deleted, k_identifier, k_integer, k_left_curly, k_right_curly}
 use Rattle.grammar.specs.Tree.{FieldTree, DeletedPart, HeadTree, DeclarationTree, optionally, each, y_field, y_deleted}
 use Rattle.grammar.specs.Tree.{y_head, y_declaration, Is, Passes, IfAny, All, WfField, WfDeleted, WfHead, WfDeclaration}
-use Rattle.grammar.specs.Error.{kind_at}
 use Rattle.grammar.specs.Condition.{deleted_errors, declarations_errors}
-use Rattle.grammar.specs.Reading.{Result, ok, fail, and_then, is, consume, optional, front, skip, Reading, is_end, parse_fields, parse_deleted}
-use Rattle.grammar.specs.Reading.{parse_keyword, name_number, parse_head, parse_right, parse_body, parse_declaration, join, parse_declarations}
+use Rattle.grammar.specs.Reading.{Result, ok, fail, is, consume, optional, Reading, is_end, parse_fields, parse_deleted}
+use Rattle.grammar.specs.Reading.{parse_keyword, name_number, parse_head, parse_right, parse_declaration, join, parse_declarations}
 use Rattle.grammar.proofs.Rules.{Read, fail≢ok, cons≢nil, both_nil, along, and_then_ok, not_kind, consume_sound}
 use Rattle.grammar.proofs.Rules.{consume_complete, token_sound, token_complete, optional-token_sound}
 use Rattle.grammar.proofs.Rules.{optional-token_complete, passes_is, is_passes, front_sound, front_complete, read_join}

@@ -2,13 +2,13 @@
 -- then it is that derivation's. specs/Tree is the grammar, specs/Derivation what it takes, specs/Meaning the schema of a tree, specs/Reading the
 -- reader, specs/Answer the bytes. Each statement cites the file that proves it.
 use Prim.Native.Nat.{ℕ, ◌≤◌}
-use mathlib.Core.Path.{◌≡◌, refl, ap, sym, ◌∙◌}
-use mathlib.Core.List.{List, [], ◌∷◌}
+use mathlib.Core.Path.{◌≡◌, ap, sym, ◌∙◌}
+use mathlib.Core.List.{List, []}
 use mathlib.Core.Logic.{◌↔◌}
 use lib.ListN.{length}
 use Rattle.wire.specs.Bytes.{Bytes}
 use Rattle.token.specs.Token.{Token}
-use Rattle.token.specs.Table.{Decoded, tokens, decode}
+use Rattle.token.specs.Table.{tokens, decode}
 use Rattle.schema.specs.Ast.{Schema}
 use Rattle.schema.specs.Encode.{encode_schema}
 use Rattle.grammar.specs.Tree.{SchemaTree, yield, Wf}
@@ -16,7 +16,7 @@ use Rattle.grammar.specs.Meaning.{schema_of}
 use Rattle.grammar.specs.Error.{Error}
 use Rattle.grammar.specs.Condition.{condition_errors}
 use Rattle.grammar.specs.Derivation.{Derives}
-use Rattle.grammar.specs.Reading.{Reading, parse_schema, Outcome, schema, errors, outcome_of, parse}
+use Rattle.grammar.specs.Reading.{Reading, parse_schema, schema, errors, outcome_of, parse}
 use Rattle.grammar.specs.Answer.{Answer, answer_of, bytes_of, read_answer}
 use Rattle.grammar.proofs.Conditions.{no_condition_errors}
 use Rattle.grammar.proofs.Schemas.{schema_sound, schema_complete}

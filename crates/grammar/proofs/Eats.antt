@@ -1,5 +1,5 @@
 -- Each tree yields at least one token, and nothing is lost of the rest.
-use Prim.Native.Nat.{ℕ, ◌+◌, ◌≤◌, ◌<◌}
+use Prim.Native.Nat.{◌+◌, ◌≤◌, ◌<◌}
 use mathlib.Core.Option.{Option, none, some}
 use mathlib.Core.List.{List, [], ◌∷◌}
 use native.Mathlib.Omega.{arith}

@@ -6,12 +6,12 @@ use mathlib.Core.List.{List, [], ◌∷◌, map}
 use Rattle.wire.specs.Bytes.{Bytes, bytes}
 use Rattle.wire.specs.Le.{le_bytes, le_number, le_at}
 use Rattle.wire.specs.Pick.{pick}
-use Rattle.identifier.specs.Byte.{lower_of, upper_of}
+use Rattle.identifier.specs.Byte.{lower_of}
 use Rattle.identifier.specs.Forms.{snake_of}
 use Rattle.identifier.specs.Order.{name_order, same_name, is_before}
 use Rattle.stem.specs.Stem.{last_part, is_parent, cut, stem_of, import_name}
 use Rattle.token.specs.Payload.{paragraph_of, after_paragraph, paragraphs_of, paragraph_bytes}
-use Rattle.schema.specs.Ast.{Import, Declaration, Schema}
+use Rattle.schema.specs.Ast.{Import, Declaration}
 use Rattle.grammar.specs.Error.{Error}
 use Rattle.grammar.specs.Reading.{Outcome, schema, errors, parse}
 use Rattle.grammar.specs.Quoted.{tokens_of}

@@ -1,19 +1,18 @@
 -- Fields: what parse_field and parse_fields read are the derivation trees of fields, and each of those is read.
-use Prim.Native.Nat.{ℕ, zero, suc, ◌≤◌, ◌<◌}
-use mathlib.Core.Path.{◌≡◌, refl, ap, sym, ◌∙◌}
+use Prim.Native.Nat.{ℕ, zero, suc, ◌≤◌}
+use mathlib.Core.Path.{◌≡◌, refl, ap, ◌∙◌}
 use mathlib.Core.Bool.{Bool, true, false}
 use mathlib.Core.Option.{Option, none, some}
-use mathlib.Core.List.{List, [], ◌∷◌, ◌++◌}
+use mathlib.Core.List.{List, [], ◌∷◌}
 use native.Mathlib.Omega.{arith}
-use lib.Dec.{eqb}
 use lib.ListN.{length}
 use borrow.Author.Tests.{eqb-true, eq-eqb}
 use Rattle.token.specs.Token.{Token}
 use Rattle.token.specs.Kind.{is_rule, k_colon, k_comment, k_deleted, k_equals, k_identifier, k_integer, k_right_curly}
-use Rattle.grammar.specs.Tree.{TypePart, FieldTree, optionally, each, y_type, y_type_part, y_field, Is, Passes, IfAny, All, WfType, WfTypePart, WfField}
+use Rattle.grammar.specs.Tree.{TypePart, FieldTree, optionally, each, y_type, y_type_part, y_field, Is, Passes, IfAny, All, WfTypePart, WfField}
 use Rattle.grammar.specs.Error.{kind_at}
-use Rattle.grammar.specs.Reading.{Result, ok, fail, and_then, is, consume, optional, parse_type, parse_type_part, parse_field, Reading, is_end, parse_fields}
-use Rattle.grammar.proofs.Rules.{Read, fail≢ok, cons≢nil, along, and_then_ok, not_kind, token_sound, token_complete, optional_sound}
+use Rattle.grammar.specs.Reading.{Result, ok, fail, is, consume, optional, parse_type, parse_type_part, parse_field, is_end, parse_fields}
+use Rattle.grammar.proofs.Rules.{Read, cons≢nil, along, and_then_ok, not_kind, token_sound, token_complete, optional_sound}
 use Rattle.grammar.proofs.Rules.{optional-none, optional_some, optional-token_sound, optional-token_complete, passes_is, is_passes}
 use Rattle.grammar.proofs.Types.{type_sound, type_complete}
 use Rattle.grammar.proofs.Eats.{field_eats}

@@ -1,19 +1,19 @@
 -- The number of tokens is enough steps: with as many the loops go on as their tests say, whatever more they are given, and none is left at the
 -- end, so that error 17 never occurs.
 use Prim.Native.Nat.{ℕ, zero, suc, ◌≤◌, ◌<◌}
-use mathlib.Core.Path.{◌≡◌, refl, ap, sym, ◌∙◌}
+use mathlib.Core.Path.{◌≡◌, refl, ap}
 use mathlib.Core.Bool.{Bool, true, false, not, true≢false}
-use mathlib.Core.List.{List, [], ◌∷◌, ◌++◌}
+use mathlib.Core.List.{List, [], ◌∷◌}
 use native.Mathlib.Omega.{arith}
 use lib.Dec.{eqb}
 use lib.ListN.{length}
 use Rattle.token.specs.Token.{Token, end_of}
 use Rattle.token.specs.Kind.{k_import, k_right_curly}
-use Rattle.grammar.specs.Tree.{FieldTree, DeclarationTree, ImportTree}
-use Rattle.grammar.specs.Error.{Error, error_at}
+use Rattle.grammar.specs.Tree.{FieldTree, ImportTree}
+use Rattle.grammar.specs.Error.{error_at}
 use Rattle.grammar.specs.Condition.{import_errors}
-use Rattle.grammar.specs.Reading.{Result, ok, fail, is, skip, parse_field, Reading, nothing, join, is_end, parse_fields}
-use Rattle.grammar.specs.Reading.{parse_declaration, parse_declarations, parse_import, parse_imports, parse_opening, parse_end, parse_schema}
+use Rattle.grammar.specs.Reading.{Result, ok, fail, is, skip, parse_field, nothing, join, is_end, parse_fields}
+use Rattle.grammar.specs.Reading.{parse_declaration, parse_declarations, parse_import, parse_imports, parse_opening, parse_schema}
 use Rattle.grammar.proofs.Fields.{field_sound}
 use Rattle.grammar.proofs.Eats.{field_eats}
 use Rattle.grammar.proofs.Left.{left, import_left, declaration_left}

@@ -1,9 +1,9 @@
 -- Imports: what is read without an error are the derivation trees of imports, and each of those is read, with just the errors of its name.
-use Prim.Native.Nat.{ℕ, zero, suc, ◌≤◌, ◌<◌}
-use mathlib.Core.Path.{◌≡◌, refl, ap, sym, ◌∙◌}
+use Prim.Native.Nat.{ℕ, zero, suc, ◌≤◌}
+use mathlib.Core.Path.{◌≡◌, refl, ap, ◌∙◌}
 use mathlib.Core.Bool.{Bool, true, false}
 use mathlib.Core.Option.{Option, none, some}
-use mathlib.Core.List.{List, [], ◌∷◌, ◌++◌}
+use mathlib.Core.List.{List, [], ◌∷◌}
 use native.Mathlib.Omega.{arith}
 use lib.Dec.{eqb}
 use lib.ListN.{length}
@@ -13,8 +13,8 @@ use Rattle.token.specs.Kind.{k_as, k_identifier, k_import, k_path}
 use Rattle.grammar.specs.Tree.{AliasPart, ImportTree, optionally, each, y_alias, y_import, Is, IfAny, All, WfAlias, WfImport}
 use Rattle.grammar.specs.Error.{kind_at}
 use Rattle.grammar.specs.Condition.{import_errors, imports_errors}
-use Rattle.grammar.specs.Reading.{Result, ok, fail, and_then, is, consume, optional, Reading, join, parse_alias, parse_import, parse_imports}
-use Rattle.grammar.proofs.Rules.{Read, fail≢ok, cons≢nil, both_nil, along, and_then_ok, token_sound}
+use Rattle.grammar.specs.Reading.{Result, ok, fail, is, consume, optional, Reading, join, parse_alias, parse_import, parse_imports}
+use Rattle.grammar.proofs.Rules.{Read, cons≢nil, both_nil, along, and_then_ok, token_sound}
 use Rattle.grammar.proofs.Rules.{token_complete, optional_sound, optional-none, optional_some}
 use Rattle.grammar.proofs.Eats.{import_eats}
 

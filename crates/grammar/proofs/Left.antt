@@ -1,8 +1,8 @@
 -- What reading leaves is never longer than what it was given, also where it fails or recovers.
-use Prim.Native.Nat.{ℕ, zero, suc, ◌+◌, ◌≤◌, ◌<◌}
+use Prim.Native.Nat.{ℕ, zero, suc, ◌≤◌}
 use mathlib.Core.Path.{◌≡◌, refl, ap}
-use mathlib.Core.Bool.{Bool, true, false, not}
-use mathlib.Core.Option.{Option, none, some}
+use mathlib.Core.Bool.{Bool, true, false}
+use mathlib.Core.Option.{Option}
 use mathlib.Core.List.{List, [], ◌∷◌}
 use native.Mathlib.Omega.{arith}
 use lib.Dec.{eqb}
@@ -11,10 +11,10 @@ use Rattle.wire.specs.Pick.{pick}
 use Rattle.token.specs.Token.{Token}
 use Rattle.token.specs.Kind.{is_plain, is_rule, k_as, k_colon, k_comment, k_deleted, k_dot, k_equals}
 use Rattle.token.specs.Kind.{k_identifier, k_integer, k_left_square, k_path, k_right_curly, k_right_square}
-use Rattle.grammar.specs.Tree.{TypeTree, FieldTree, DeletedPart, HeadTree, DeclarationTree, ImportTree}
+use Rattle.grammar.specs.Tree.{FieldTree, DeletedPart, HeadTree}
 use Rattle.grammar.specs.Reading.{Result, ok, fail, and_then, is, consume, optional, skip, is_dotted, parse_dotted, parse_single}
 use Rattle.grammar.specs.Reading.{parse_type, parse_type_part, parse_field, Reading, is_end, parse_fields, parse_deleted, parse_head}
-use Rattle.grammar.specs.Reading.{parse_right, parse_body, parse_declaration, parse_alias, parse_import}
+use Rattle.grammar.specs.Reading.{parse_right, parse_declaration, parse_alias, parse_import}
 use Rattle.grammar.proofs.Declarations.{head_sound}
 use Rattle.grammar.proofs.Eats.{head_eats}
 

@@ -274,7 +274,7 @@ errors_told ts {P} told h =
     (all_append P is'.errors ds.errors a.errors b.errors)
 
 -- Its record holds it.
-found-small : (number : ℕ) (ts : List Token) → All Sane ts → found_at number ts < 65536
+found_small : (number : ℕ) (ts : List Token) → All Sane ts → found_at number ts < 65536
 unfolding pick
 found_small number ts h = go (leb number 13) ts h
   where

@@ -11,7 +11,7 @@ use Rattle.wire.specs.Bytes.{Bytes}
 use Rattle.wire.specs.Pick.{pick}
 use Rattle.wire.specs.Put.{laid}
 use Rattle.token.specs.Token.{Token}
-use Rattle.token.specs.Table.{Decoded, refused, tokens, decode}
+use Rattle.token.specs.Table.{refused, tokens, decode}
 use Rattle.schema.specs.Ast.{Schema}
 use Rattle.schema.specs.Encode.{encode_schema}
 use Rattle.grammar.specs.Tree.{SchemaTree}

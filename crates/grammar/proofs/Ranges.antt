@@ -5,7 +5,7 @@ use mathlib.Core.Option.{Option, none, some}
 use mathlib.Core.List.{List, [], ◌∷◌}
 use Rattle.token.specs.Token.{Token, end_of}
 use Rattle.schema.specs.Ast.{Range, TypeVariant}
-use Rattle.grammar.specs.Tree.{TypeTree, array, plain, single, dotted, TypePart, FieldTree, DeletedPart, DeclarationTree, AliasPart}
+use Rattle.grammar.specs.Tree.{TypeTree, array, plain, single, dotted, FieldTree, DeclarationTree, AliasPart}
 use Rattle.grammar.specs.Tree.{ImportTree, optionally, each, y_type, y_type_part, y_field, y_deleted, y_declaration, y_alias, y_import}
 use Rattle.grammar.specs.Place.{span, first_of}
 use Rattle.grammar.specs.Meaning.{type_of, field_of, declaration_of, last_of, import_of}

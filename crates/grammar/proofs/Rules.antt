@@ -1,6 +1,6 @@
 -- Laws of results, of one token, of an optional part and of a run of tokens: what reading takes is what the trees yield.
 use Prim.Native.Nat.{ℕ}
-use mathlib.Core.Path.{◌≡◌, refl, ap, sym, ◌∙◌, subst, subst₂}
+use mathlib.Core.Path.{◌≡◌, refl, ap, sym, ◌∙◌, subst₂}
 use mathlib.Core.Bool.{Bool, true, false, true≢false}
 use mathlib.Core.Option.{Option, none, some}
 use mathlib.Core.List.{List, [], ◌∷◌, ◌++◌}

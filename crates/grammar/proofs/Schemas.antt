@@ -1,5 +1,4 @@
 -- The schema: what is read without an error is a derivation, and every tree of the grammar is read, with just the errors of its conditions.
-use Prim.Native.Nat.{ℕ}
 use mathlib.Core.Path.{◌≡◌, refl, ap, sym, ◌∙◌, subst}
 use mathlib.Core.Bool.{true}
 use mathlib.Core.Option.{Option, none, some}
@@ -9,15 +8,15 @@ use lib.ListN.{length}
 use Rattle.token.specs.Token.{Token, end_of}
 use Rattle.token.specs.Kind.{is_keyword, k_as, k_comment, k_import}
 use Rattle.grammar.specs.Tree.{DeclarationTree, SchemaTree, optionally, each, y_import, y_declaration}
-use Rattle.grammar.specs.Tree.{y_body, yield, Is, IfAny, All, WfHead, WfDeclaration, WfOpening, Wf}
-use Rattle.grammar.specs.Error.{Error, kind_at}
-use Rattle.grammar.specs.Condition.{condition_errors, Good}
+use Rattle.grammar.specs.Tree.{y_body, yield, Is, IfAny, All, WfDeclaration, WfOpening, Wf}
+use Rattle.grammar.specs.Error.{Error}
+use Rattle.grammar.specs.Condition.{condition_errors}
 use Rattle.grammar.specs.Derivation.{Derives}
-use Rattle.grammar.specs.Reading.{is, Reading, parse_imports, parse_declarations, parse_opening, parse_end, parse_schema}
-use Rattle.grammar.proofs.Rules.{Read, cons≢nil, both_nil, not_kind}
+use Rattle.grammar.specs.Reading.{parse_imports, parse_declarations, parse_opening, parse_end, parse_schema}
+use Rattle.grammar.proofs.Rules.{cons≢nil, both_nil, not_kind}
 use Rattle.grammar.proofs.Opening.{opening_sound, opening_complete}
-use Rattle.grammar.proofs.Declarations.{Declared, declarations_sound, declarations_complete}
-use Rattle.grammar.proofs.Imports.{Imported, imports_sound, Ends, imports_complete}
+use Rattle.grammar.proofs.Declarations.{declarations_sound, declarations_complete}
+use Rattle.grammar.proofs.Imports.{imports_sound, Ends, imports_complete}
 use Rattle.grammar.proofs.Conditions.{conditions_hold}
 
 end_none : (es : List Error) (ts : List Token) → parse_end es ts ≡ [] → (es ≡ []) × (ts ≡ [])

@@ -79,7 +79,7 @@ pub table-sized : (table : Bytes) (ts : List Token) → decode table ≡ tokens 
 table-sized table ts d = sized_from 4096 0 0 0 table ts (decode_small table ts d).1
 
 -- Comments. This holds of any bytes: one byte alone is an empty paragraph, of two bytes.
-paragraphs-length : (n : ℕ) (bs : Bytes) → length (paragraph_bytes (paragraphs_in n bs)) ≤ 2 * length bs
+paragraphs_length : (n : ℕ) (bs : Bytes) → length (paragraph_bytes (paragraphs_in n bs)) ≤ 2 * length bs
 unfolding paragraph_bytes paragraph_of after_paragraph
 paragraphs_length zero bs = omega arith
 paragraphs_length (suc n) [] = omega arith
@@ -218,7 +218,7 @@ deleted_twice (some p) r =
     )
 
 -- Declarations.
-declarations-twice : (ds : List DeclarationTree) (r : List Token)
+declarations_twice : (ds : List DeclarationTree) (r : List Token)
     → length (encode_declarations (map declaration_of ds)) + 2 * size r ≤ 2 * size (each y_declaration ds r)
 declarations_twice [] r = omega arith
 declarations_twice (d ∷ ds) r =

@@ -1,6 +1,5 @@
 -- Types: what parse_type reads are the derivation trees of types, and each of those is read.
-use Prim.Native.Nat.{ℕ}
-use mathlib.Core.Path.{◌≡◌, refl, ap, sym, ◌∙◌}
+use mathlib.Core.Path.{◌≡◌, refl}
 use mathlib.Core.Bool.{Bool, true, false}
 use mathlib.Core.List.{List, [], ◌∷◌}
 use lib.Dec.{eqb}
@@ -9,7 +8,7 @@ use Rattle.token.specs.Token.{Token}
 use Rattle.token.specs.Kind.{is_plain, k_dot, k_identifier, k_left_square, k_right_square}
 use Rattle.grammar.specs.Tree.{TypeTree, array, plain, single, dotted, y_type, WfType}
 use Rattle.grammar.specs.Error.{kind_at}
-use Rattle.grammar.specs.Reading.{Result, ok, fail, and_then, is, consume, is_dotted, parse_dotted, parse_single, parse_closing, parse_type}
+use Rattle.grammar.specs.Reading.{ok, is, consume, is_dotted, parse_dotted, parse_single, parse_type}
 use Rattle.grammar.proofs.Rules.{Read, fail≢ok, along, and_then_ok, not_kind, token_sound, token_complete}
 
 single_sound : (ts : List Token) {y : TypeTree} {r : List Token} → parse_single ts ≡ ok y r → Read y_type WfType ts y r

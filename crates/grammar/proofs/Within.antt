@@ -82,7 +82,7 @@ comments_within none w = record { few = omega arith; each = refl }
 comments_within (some c) w = comment_within w.1 w.0
 
 -- Types.
-type-good : (y : TypeTree) (r : List Token) → WfType y → Held (y_type y r) → TypeWithin (type_of y) × Held r
+type_good : (y : TypeTree) (r : List Token) → WfType y → Held (y_type y r) → TypeWithin (type_of y) × Held r
 type_good (array l y c) r (v, w, x) (s, f, h) = let (p, (u, g, k)) = type_good y (c ∷ r) w h in ((span-within s u, p), k)
 type_good (plain t) r w (s, f, h) = ((span-within s s, w), h)
 type_good (single n) r w (s, f, h) = ((span-within s s, tt, identifier_name s w), h)
@@ -118,7 +118,7 @@ type_within none w s = ((record { start = s.start; end = s.start }, refl), omega
 type_within (some p) w s = w
 
 -- Fields.
-field-good : (f : FieldTree) (r : List Token) → WfField f → Held (y_field f r) → FieldWithin (field_of f) × Held r
+field_good : (f : FieldTree) (r : List Token) → WfField f → Held (y_field f r) → FieldWithin (field_of f) × Held r
 field_good f r w h =
     let c = (optionally_gives (token-gives (Is k_comment))).of f.comment _ w.comment h in
     let x = (optionally_gives (token-gives (Passes is_rule))).of f.rule _ w.rule c.1 in
@@ -206,7 +206,7 @@ declaration_gives : Gives y_declaration Sound (λ d. DeclarationWithin (declarat
 declaration_gives = record { of = declaration_good }
 
 -- Imports.
-alias-name : (path a : Bytes) → is_path path ≡ true → is_name a ≡ true → eqb (length (import_name path a)) 0 ≡ false → is_name (import_name path a) ≡ true
+alias_name : (path a : Bytes) → is_path path ≡ true → is_name a ≡ true → eqb (length (import_name path a)) 0 ≡ false → is_name (import_name path a) ≡ true
 unfolding import_name pick
 alias_name path a p n e = go (eqb (length a) 0) refl
   where
@@ -253,7 +253,7 @@ import_gives : Gives y_import Known (λ i. ImportWithin (import_of i))
 import_gives = record { of = import_good }
 
 -- The schema.
-opening-comment : (o : Option Token) (r : List Token) → WfOpening o r → IfAny (Is k_comment) o
+opening_comment : (o : Option Token) (r : List Token) → WfOpening o r → IfAny (Is k_comment) o
 opening_comment none r w = tt
 opening_comment (some c) r w = w.0
 

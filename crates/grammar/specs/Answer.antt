@@ -1,9 +1,8 @@
 -- Document 01, "Numbers that stop a call": what reading a table answers, given a lent buffer, and what it leaves in the buffer. R1 to R7, then the
 -- parse, then R8. A refusal changes no byte; after a success the bytes past the answer stay as they were.
-use Rattle.std.specs.Prelude.{ℕ, ◌≡◌, true, false, List, [], ◌∷◌, ◌++◌, leb, length, drop}
+use Rattle.std.specs.Prelude.{ℕ, ◌≡◌, [], ◌++◌, leb, length, drop}
 use Rattle.wire.specs.Bytes.{Bytes}
 use Rattle.wire.specs.Pick.{pick}
-use Rattle.token.specs.Token.{Token}
 use Rattle.token.specs.Table.{Decoded, refused, tokens, decode}
 use Rattle.schema.specs.Encode.{encode_schema}
 use Rattle.grammar.specs.Error.{errors_bytes}

@@ -1,6 +1,6 @@
 -- The conditions that are not grammar: each import's name can be found and differs in snake case from the others, and no declaration lists a
 -- deleted index twice. The errors 14, 15 and 16 report what breaks them.
-use Rattle.std.specs.Prelude.{ℕ, ◌≡◌, Bool, true, false, ◌||◌, eqb}
+use Rattle.std.specs.Prelude.{◌≡◌, Bool, false, ◌||◌, eqb}
 use Rattle.std.proofs.Math.Option.{Option, none, some}
 use mathlib.Core.List.{List, [], ◌∷◌, ◌++◌, map, Memᴰ}
 use Rattle.wire.specs.Bytes.{Bytes}

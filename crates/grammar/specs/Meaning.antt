@@ -1,5 +1,5 @@
 -- What a derivation means: the schema, with its ranges. Document 01, "The grammar" and "Ranges".
-use Rattle.std.specs.Prelude.{ℕ, Bool, true, false, List, [], ◌∷◌, map, eqb, ltb, length}
+use Rattle.std.specs.Prelude.{ℕ, Bool, List, [], ◌∷◌, map, eqb, ltb, length}
 use Rattle.std.proofs.Math.Option.{Option, none, some}
 use Rattle.wire.specs.Bytes.{Bytes}
 use Rattle.wire.specs.Le.{le_number}
@@ -11,7 +11,7 @@ use Rattle.token.specs.Kind.{k_asymmetric, k_struct, k_unit}
 use Rattle.token.specs.Payload.{paragraphs_of}
 use Rattle.schema.specs.Ast.{TypeVariant, Rule, Field, Import, DeclarationVariant, Declaration, Schema}
 use Rattle.grammar.specs.Tree.{TypeTree, array, plain, single, dotted, TypePart, FieldTree, DeletedPart}
-use Rattle.grammar.specs.Tree.{HeadTree, DeclarationTree, AliasPart, ImportTree, SchemaTree}
+use Rattle.grammar.specs.Tree.{DeclarationTree, AliasPart, ImportTree, SchemaTree}
 use Rattle.grammar.specs.Place.{span, empty_at, first_of}
 use Rattle.grammar.specs.Sort.{sort_by}
 

@@ -1,6 +1,6 @@
 -- "Texts below stand for their tokens, at these byte places": the tokens of a quoted text, for examples and for the table of cases. It judges
 -- nothing: a byte that begins no token is skipped like a space, and each line after `# ` is a Comment of one paragraph.
-use Rattle.std.specs.Prelude.{ℕ, zero, suc, ◌+◌, ◌*◌, ◌-◌, Bool, true, false, ◌||◌, List, [], ◌∷◌, ◌++◌, eqb, length}
+use Rattle.std.specs.Prelude.{ℕ, zero, suc, ◌+◌, ◌*◌, ◌-◌, Bool, true, false, ◌||◌, List, [], ◌∷◌, ◌++◌, eqb}
 use Prim.Native.String.{String}
 use Rattle.wire.specs.Bytes.{Bytes, bytes}
 use Rattle.wire.specs.Le.{le_bytes}

@@ -8,7 +8,7 @@ use Rattle.token.specs.Kind.{k_import, k_integer, k_left_curly, k_left_square, k
 use Rattle.schema.specs.Ast.{Schema}
 use Rattle.grammar.specs.Tree.{TypeTree, array, plain, single, dotted, TypePart, FieldTree, DeletedPart}
 use Rattle.grammar.specs.Tree.{HeadTree, DeclarationTree, AliasPart, ImportTree, SchemaTree}
-use Rattle.grammar.specs.Error.{Error, error_at, kind_at}
+use Rattle.grammar.specs.Error.{Error, error_at}
 use Rattle.grammar.specs.Condition.{import_errors, index_errors}
 use Rattle.grammar.specs.Meaning.{schema_of}
 

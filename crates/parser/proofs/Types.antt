@@ -98,7 +98,7 @@ module _ {t : Bytes} {c d : Cursor} (n : kind_at (ahead t c) ≢ k_left_square) 
     as_single k = read_as t c parse_single parse_type (rw s.first (rw ((other e).0, (other e).1, k, parse_type)))
 
 -- Brackets.
-bare-size : {t : Bytes} {at : ℕ} (k : ℕ) → ((p : Bytes) → is_payload k p ≡ eqb (length p) 0) → Stands t at → (tok_at t at).kind ≡ k → next_at t at ≡ at + 12
+bare_size : {t : Bytes} {at : ℕ} (k : ℕ) → ((p : Bytes) → is_payload k p ≡ eqb (length p) 0) → Stands t at → (tok_at t at).kind ≡ k → next_at t at ≡ at + 12
 bare_size {t} {at} k bare s e =
     let p = (tok_at t at).payload in
     let z = eqb-true (length p) 0 (sym (bare p) ∙ (rw e at (wf_good s.0 s.1).sound.payload)) in

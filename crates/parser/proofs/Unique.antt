@@ -137,7 +137,7 @@ type_one t c rule (type.Passed p d) (type.Failed m e) a b = absurd (apart b a.re
 type_one t c rule (type.Failed n d) (type.Passed q e) a b = absurd (apart a b.read)
 
 -- Fields.
-part-one : (t : Bytes) (at : ℕ) (p q : PartPlaces) → part_at t p ≡ part_at t q → part_laid t at p ≡ part_laid t at q
+part_one : (t : Bytes) (at : ℕ) (p q : PartPlaces) → part_at t p ≡ part_at t q → part_laid t at p ≡ part_laid t at q
 part_one t at Absent Absent e = refl
 part_one t at Absent (Present x q) e = let z : ◌≡◌ {A = ℕ} 0 1 = cc in absurd (omega arith)
 part_one t at (Present x p) Absent e = let z : ◌≡◌ {A = ℕ} 0 1 = cc in absurd (omega arith)
