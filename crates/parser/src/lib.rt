@@ -1,5 +1,6 @@
 // The rules of parser.rs over a checked token table. Each goes from a cursor to the places of what it read and the cursor past it, or to an error's number and place.
 #![tactic(auto)]
+
 ghost use Rattle.std.specs.Prelude.{◌≡◌, ◌≢◌, ◌<◌, eqb};
 ghost use Rattle.wire.specs.Pick.{pick};
 ghost use Rattle.token.specs.Kind.{k_left_square, k_struct, is_rule};
@@ -13,7 +14,7 @@ pub mod kinds;
 use token::kind;
 
 // A place in the token table: a record's, or the table's length at the end of the tokens.
-#[derive(Drop)]
+#[derive(Clone, Copy, Drop)]
 pub struct Cursor {
     pub at: usize,
 }
