@@ -11,7 +11,7 @@ use Rattle.identifier.specs.Byte.{lower_of, upper_of}
 use Rattle.identifier.specs.Forms.{snake_of, pascal_of}
 use Rattle.identifier.specs.Order.{same_name, name_order}
 use Rattle.stem.specs.Stem.{stem_of, last_part, is_parent, cut}
-use Rattle.token.specs.Kind.{k_bool, k_string, k_u64, k_unit}
+use Rattle.token.specs.Kind.{k_string, k_u64, k_unit}
 use Rattle.schema.specs.Ast.{Range, TypeVariant, array, plain, custom, Rule, required, asymmetric, optional}
 use Rattle.schema.specs.Ast.{Field, Import, DeclarationVariant, struct, choice, Declaration, Schema}
 use Rattle.text.specs.Wrap.{wrap}

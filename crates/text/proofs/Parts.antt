@@ -1,7 +1,7 @@
 -- What the rules of payloads say of the parts that are written.
 use Prim.Native.Nat.{ℕ, ◌-◌, ◌%◌, ◌≤◌}
 use mathlib.Core.Path.{◌≡◌, refl}
-use mathlib.Core.Bool.{Bool, true, false, ◌&&◌, ◌||◌, and-eq-true_iff}
+use mathlib.Core.Bool.{Bool, true, false, ◌||◌, and-eq-true_iff}
 use mathlib.Core.List.{[], ◌∷◌}
 use native.Mathlib.Omega.{arith}
 use borrow.Author.Tests.{leb-true, eqb-true}

@@ -10,7 +10,6 @@ use borrow.Author.Tests.{ltb-true, ltb-false}
 use lib.Dec.{ltb, eqb}
 use lib.ListN.{length, length-append}
 use Rattle.wire.specs.Bytes.{Bytes}
-use Rattle.wire.specs.Le.{le_bytes}
 use Rattle.wire.specs.Record.{record_bytes}
 use Rattle.wire.specs.Pick.{pick}
 use Rattle.wire.specs.Decimal.{decimal}

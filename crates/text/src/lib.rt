@@ -1,5 +1,6 @@
 // The canonical text of a schema, as schema.rs writes it.
 #![tactic(auto)]
+
 ghost use Rattle.std.specs.Prelude.{◌≡◌, true, ◌≤◌, ◌%◌, length, drop};
 ghost use mathlib.Core.List.{flat_map};
 ghost use Rattle.wire.specs.Put.{Wrote};
