@@ -1,5 +1,6 @@
 // The canonical text of a schema table: schema.rs's writers, over the records of a table that the check let pass.
 #![tactic(auto)]
+
 ghost use Rattle.std.specs.Prelude.{◌≡◌, true, ◌+◌, ◌*◌, ◌<◌, length};
 ghost use Rattle.wire.specs.Put.{Wrote};
 ghost use Rattle.schema.specs.Payload.{is_field};
