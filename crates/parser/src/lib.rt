@@ -98,7 +98,7 @@ fn skip_rule(t: &[u8], c: Cursor) -> Skip
 }
 
 // Where a type stands: from `opens` on `depth` brackets, then the base, of one token or dotted, then as many brackets from `close` on.
-#[derive(Drop)]
+#[derive(Clone, Copy, Drop)]
 pub struct TypePlaces {
     pub opens: usize,
     pub depth: usize,
@@ -222,7 +222,7 @@ fn parse_type(t: &[u8], c: Cursor) -> TypeStep
 }
 
 // Where a field's type stands, after the colon's place.
-#[derive(Drop)]
+#[derive(Clone, Copy, Drop)]
 pub enum PartPlaces {
     Absent,
     Present(usize, TypePlaces),
@@ -248,7 +248,7 @@ fn parse_type_part(t: &[u8], c: Cursor) -> PartStep
 }
 
 // Where a field stands: a comment at `first` where it is commented, a rule at `rule` where it is ruled.
-#[derive(Drop)]
+#[derive(Clone, Copy, Drop)]
 pub struct FieldPlaces {
     pub first: usize,
     pub commented: bool,
