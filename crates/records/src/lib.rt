@@ -1,5 +1,6 @@
 // The records of a schema table, written from the places of a token table at which a construct stands.
 #![tactic(auto)]
+
 ghost use Rattle.std.specs.Prelude.{◌≡◌, true, ◌++◌, ◌+◌, ◌≤◌, ◌<◌, length};
 ghost use Rattle.wire.specs.Le.{le_bytes};
 ghost use Rattle.wire.specs.Put.{Wrote};
