@@ -1,5 +1,6 @@
 // What is collected from a table for sorting: the numbers of the Integers from a cursor on, and the imports.
 #![tactic(auto)]
+
 ghost use Rattle.std.specs.Prelude.{◌≤◌, length};
 ghost use Rattle.token.specs.Places.{tokens_from, Wf};
 ghost use Rattle.parser.specs.Steps.{ahead};
