@@ -1,5 +1,6 @@
 // The imports of a schema table.
 #![tactic(auto)]
+
 ghost use Rattle.wire.specs.Put.{Wrote};
 ghost use Rattle.grammar.specs.Tree.{All};
 ghost use Rattle.places.specs.Imports.{NamedHere};
