@@ -1,5 +1,6 @@
 // The schema table of a token table that is read without errors.
 #![tactic(auto)]
+
 ghost use Rattle.std.specs.Prelude.{◌≡◌, ltb};
 ghost use Rattle.wire.specs.Put.{Wrote};
 ghost use Rattle.token.specs.Places.{tokens_from, Wf};
