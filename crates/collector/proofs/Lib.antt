@@ -1,4 +1,2 @@
--- The laws of collecting, and what its walks need of a loan.
+-- The laws of collecting.
 pub mod Laws
-pub mod Relend
-pub mod Lent

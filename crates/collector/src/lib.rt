@@ -1,6 +1,7 @@
 // The errors of a table in one collector, lent to each rule of the schema in turn: a rule writes from the end of the list that the collector holds,
 // and tells it the new end.
 #![tactic(auto)]
+
 ghost use Rattle.std.specs.Prelude.{◌≡◌, ◌≤◌, length};
 ghost use Rattle.token.specs.Places.{tokens_from};
 ghost use Rattle.places.specs.Imports.{Orders};
@@ -11,7 +12,7 @@ use parser::Cursor;
 use places::Ordered;
 
 // The errors so far: the bytes of their list and their number.
-#[derive(Drop)]
+#[derive(Clone, Copy, Drop)]
 pub struct Collector {
     pub length: usize,
     pub count: usize,

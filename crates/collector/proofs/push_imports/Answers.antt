@@ -1,0 +1,7 @@
+-- `collector::push_imports`: the end of the list doesn't fall.
+use Rattle.std.proofs.Common.{arith}
+use Rattle.collector.proofs.Laws.{grows}
+use Rattle.collector.proofs.push_imports.Goals as goal
+
+pub grown-requires : goal.grown-requires
+grown-requires c = grows _ c.requires.0 (omega arith) c.judge_imports-i.ensures.judged.wrote
