@@ -130,7 +130,7 @@ pub fn arrange(t: &[u8], key: Key, items: &mut [u64], spare: &mut [u64], n: usiz
 
 // The imports past the schema's comment: whether that is there, and the cursor past it; how many items there are, whether two imports have the same
 // name, and whether there is no error in them; and the cursor past them.
-#[derive(Drop)]
+#[derive(Clone, Copy, Drop)]
 pub struct Ordered {
     pub comment: bool,
     pub from: Cursor,

@@ -1,5 +1,6 @@
 // Reading a token table into a lent buffer: a schema table, an error list, or a refusal.
 #![tactic(auto)]
+
 ghost use Rattle.std.specs.Prelude.{◌≤◌, length, drop};
 ghost use Rattle.token.specs.Places.{tokens_from};
 ghost use Rattle.reader.specs.Answers.{Answers, Checked, Lent, Ready, Clean};
