@@ -1,7 +1,6 @@
 -- `reader::read_from` meets its contract: the check refuses, or the lists are made as long as the table wants them.
 use native.Mathlib.Omega.{arith}
 use lib.ListN.{length-drop}
-use borrow.Author.Rules.{rules}
 use Rattle.token.proofs.Laws.{part_from}
 use Rattle.token.proofs.Walk.{wf_few}
 use Rattle.reader.proofs.Laws.{nothing_read, passed, stopped}
