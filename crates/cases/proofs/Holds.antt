@@ -1,7 +1,7 @@
 -- Every marked case is told as document 01 says.
 use mathlib.Core.Path.{◌≡◌, refl}
-use mathlib.Core.List.{List, map, flat_map}
-use Rattle.wire.specs.Bytes.{Bytes, bytes}
+use mathlib.Core.List.{map, flat_map}
+use Rattle.wire.specs.Bytes.{bytes}
 use Rattle.wire.specs.Le.{le_bytes, le_number, le_at}
 use Rattle.wire.specs.Pick.{pick}
 use Rattle.wire.specs.Decimal.{digits, decimal}

@@ -1,5 +1,5 @@
 -- What the reader's answer tells of the answer that the definition gives, and of the buffer.
-use Prim.Native.Nat.{ℕ, ◌+◌, ◌≤◌, ◌<◌}
+use Prim.Native.Nat.{ℕ, ◌≤◌, ◌<◌}
 use mathlib.Core.Path.{◌≡◌, refl, ap, sym, ◌∙◌}
 use mathlib.Core.Bool.{Bool, true, false}
 use mathlib.Core.List.{List, [], ◌∷◌, ◌++◌}
@@ -26,7 +26,6 @@ use Rattle.grammar.proofs.Count.{errors_length, errors_short}
 use Rattle.grammar.proofs.Outcomes.{parse_schema_lem, parse_errors, read_refused, read_tokens}
 use Rattle.grammar.proofs.Demand3.{unique, refuses_exactly, table_sound}
 use Rattle.reader.specs.Answers.{told, Answers}
-use Rattle.reader.specs.declared.Answer.{Answer}
 use Rattle.reader.specs.declared.Answer.TheVariants.{Refused, Schema, Errors}
 use Rattle.demands.specs.Outcome.{Front, SchemaRead, ErrorsRead}
 use Rattle.demands.proofs.Numbers.{refused_number}

@@ -1,7 +1,7 @@
 -- What is printed is never longer than 147,456 bytes, so that a buffer of so many holds it whole: a line for each of at most 4,096 errors, or at most
 -- 65,536 bytes of text, or one line. And of a table that is too long no more than its first 65,537 bytes matter.
-use Prim.Native.Nat.{ℕ, zero, suc, ◌+◌, ◌*◌, ◌-◌, ◌/◌, ◌^◌, ◌≤◌, ◌<◌, min}
-use mathlib.Core.Path.{◌≡◌, refl, sym, ap, ◌∙◌}
+use Prim.Native.Nat.{ℕ, zero, suc, ◌+◌, ◌*◌, ◌/◌, ◌^◌, ◌≤◌, ◌<◌}
+use mathlib.Core.Path.{◌≡◌, refl, sym, ◌∙◌}
 use mathlib.Core.Bool.{Bool, true, false}
 use mathlib.Core.Option.{Option, none, some}
 use mathlib.Core.List.{List, [], ◌∷◌, ◌++◌}
@@ -11,7 +11,7 @@ use native.Mathlib.Omega.{arith}
 use lib.Dec.{leb, ltb}
 use lib.ListN.{length, take, drop, length-append, length-drop, length-take}
 use borrow.Author.Tests.{leb-true, lt-ltb, ltb-true, ltb-false}
-use Rattle.wire.specs.Bytes.{Bytes, bytes}
+use Rattle.wire.specs.Bytes.{Bytes}
 use Rattle.wire.specs.Le.{le_bytes, le_at}
 use Rattle.wire.specs.Decimal.{decimal}
 use Rattle.wire.specs.Pick.{pick}
@@ -28,9 +28,9 @@ use Rattle.schema.proofs.Parts.{le_at_small}
 use Rattle.text.specs.Text.{text_of}
 use Rattle.grammar.specs.Error.{Error, error_bytes, errors_bytes}
 use Rattle.grammar.specs.Meaning.{schema_of}
-use Rattle.grammar.specs.Reading.{Outcome, parse, parse_schema}
+use Rattle.grammar.specs.Reading.{parse, parse_schema}
 use Rattle.grammar.specs.Answer.{Answer, answer_of, bytes_of, fitted, read_answer}
-use Rattle.grammar.proofs.Count.{errors_length, errors_short}
+use Rattle.grammar.proofs.Count.{errors_short}
 use Rattle.grammar.proofs.Outcomes.{parse_schema_lem, parse_errors, read_refused, read_tokens}
 use Rattle.printed.specs.Printed.{spaced, refusal_line, error_text, error_line, error_lines, text_printed, schema_printed, answer_printed, printed, Prints}
 

@@ -1,12 +1,10 @@
 -- What is printed, by what the table decodes to and what its tokens parse to.
-use Prim.Native.Nat.{ℕ, suc, ◌+◌, ◌*◌, ◌/◌, ◌≤◌, ◌<◌}
+use Prim.Native.Nat.{ℕ, ◌+◌, ◌/◌, ◌≤◌, ◌<◌}
 use mathlib.Core.Path.{◌≡◌, refl, sym, ap, ◌∙◌}
-use mathlib.Core.Bool.{true}
 use mathlib.Core.Option.{some}
 use mathlib.Core.List.{List, [], ◌∷◌, ◌++◌, append_assoc}
 use native.Mathlib.Omega.{arith}
-use lib.Dec.{leb}
-use lib.ListN.{length, drop, length-append}
+use lib.ListN.{length, length-append}
 use lib.Seq.{drop_at}
 use borrow.Author.Tests.{le-leb, le-ltb, lt-leb}
 use Rattle.wire.specs.Bytes.{Bytes}
@@ -30,7 +28,7 @@ use Rattle.grammar.specs.Answer.{fitted}
 use Rattle.grammar.proofs.Within.{schema_back}
 use Rattle.grammar.proofs.Narrow.{errors_narrow}
 use Rattle.grammar.proofs.Outcomes.{schema≢errors, parse_schema_lem, parse_errors, read_refused, table_answer, read_tokens}
-use Rattle.printed.specs.Printed.{refusal_line, error_line, error_lines, schema_printed, printed}
+use Rattle.printed.specs.Printed.{refusal_line, error_lines, schema_printed, printed}
 use Rattle.printed.specs.Errors.{errors_text}
 
 -- the record of an error, as a token's

@@ -1,5 +1,6 @@
 // What typefmt prints of a token table: the canonical text, a line for each error, or the line of a refusal.
 #![tactic(auto)]
+
 ghost use Rattle.std.specs.Prelude.{◌+◌, ◌≤◌, ◌/◌, ◌≡◌, length};
 ghost use Rattle.wire.specs.Put.{Wrote};
 ghost use Rattle.printed.specs.Printed.{spaced, refusal_line, error_line, error_lines, schema_printed, Prints};

@@ -1,5 +1,6 @@
 // The reader and the writer for programs in C or Rust, which link them as a static library. A slice is a pointer and a length there.
 #![tactic(auto)]
+
 ghost use Rattle.reader.specs.Answers.{Answers};
 ghost use Rattle.writer.specs.Written.{Writes};
 ghost use Rattle.typical.specs.Returned.{Returns, Formats, read_status, read_value, write_status, write_value};
