@@ -1,5 +1,6 @@
 // Reading and writing with lent buffers of given lengths: what is answered, and whether every other byte of the buffer was kept.
 #![tactic(auto)]
+
 ghost use Rattle.std.specs.Prelude.{◌≤◌, length};
 
 use reader::Answer;

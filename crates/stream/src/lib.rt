@@ -1,6 +1,7 @@
 // Lists of entries on standard input. What a call of the system reads or writes no contract can say: these functions are proved safe and ending, and
 // what is printed of a table is the promise of printed::print.
 #![tactic(auto)]
+
 ghost use Rattle.std.specs.Prelude.{◌≤◌, length};
 ghost use Rattle.printed.specs.Printed.{printed, Prints};
 ghost use Rattle.stream.specs.Number.{InFourBytes};
