@@ -20,9 +20,10 @@ find_right-right-requires c = (passed (goal.at.find_right-right-requires c).In-P
 
 pub put_head-a-requires : goal.put_head-a-requires
 put_head-a-requires c =
+    let at = goal.at.put_head-a-requires c in
     let find-right = c.find_right-right in
     let pre = c.requires in
-    (head_here pre.0 (passed (goal.at.put_head-a-requires c).In-Passed), right_stands pre.0 (passed (goal.at.put_head-a-requires c).In-Passed) find-right.ensures)
+    (head_here pre.0 (passed at.In-Passed), right_stands pre.0 (passed at.In-Passed) find-right.ensures)
 
 pub put_fields-f-requires : goal.put_fields-f-requires
 put_fields-f-requires c =

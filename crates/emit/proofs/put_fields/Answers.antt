@@ -48,8 +48,9 @@ loop-c-smaller c = omega (arith, (passed (goal.at.loop-c-smaller c).In-Passed).e
 
 pub loop-c-preserved : goal.loop-c-preserved
 loop-c-preserved c =
+    let at = goal.at.loop-c-preserved c in
     let put-field = c.put_field-a in
     let if1 = c.if-kind in
     let kind-or-end = c.kind_or_end-kind in
     let loop = c.loop-c in
-    field_written loop.invariant (is_end_lem loop.invariant.clear.wf kind-or-end.ensures ∙ if1.false) (passed (goal.at.loop-c-preserved c).In-Passed) put-field.ensures
+    field_written loop.invariant (is_end_lem loop.invariant.clear.wf kind-or-end.ensures ∙ if1.false) (passed at.In-Passed) put-field.ensures

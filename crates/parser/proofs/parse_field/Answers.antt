@@ -33,15 +33,19 @@ pub parse_type_part-requires : goal.parse_type_part-requires
 parse_type_part-requires c = (named (goal.at.parse_type_part-requires c).In-Passed).name.read.wf
 
 pub consume_token-requires-in-Passed-parse_type_part : goal.consume_token-requires-in-Passed-parse_type_part
-consume_token-requires-in-Passed-parse_type_part c = ((typed (goal.at.consume_token-requires-in-Passed-parse_type_part c).In-Passed-parse_type_part).read.wf, omega arith)
+consume_token-requires-in-Passed-parse_type_part c =
+    let at = goal.at.consume_token-requires-in-Passed-parse_type_part c in
+    ((typed at.In-Passed-parse_type_part).read.wf, omega arith)
 
 pub returns-in-Failed-consume_token : goal.returns-in-Failed-consume_token
 returns-in-Failed-consume_token c =
+    let at = goal.at.returns-in-Failed-consume_token c in
     let consume-token2 = c.consume_token-in-Passed-parse_type_part in
-    equals_fails (named (goal.at.returns-in-Failed-consume_token c).In-Passed) (typed (goal.at.returns-in-Failed-consume_token c).In-Passed-parse_type_part) (rw c.in-Failed-consume_token.is at consume-token2.ensures)
+    equals_fails (named at.In-Passed) (typed at.In-Passed-parse_type_part) (rw c.in-Failed-consume_token.is at consume-token2.ensures)
 
 pub consume_token-requires-in-Passed-parse_type_part-2 : goal.consume_token-requires-in-Passed-parse_type_part-2
-consume_token-requires-in-Passed-parse_type_part-2 c = ((rw c.in-Passed-consume_token.is at c.consume_token-in-Passed-parse_type_part.ensures).read.wf, omega arith)
+consume_token-requires-in-Passed-parse_type_part-2 c =
+    ((rw c.in-Passed-consume_token.is at c.consume_token-in-Passed-parse_type_part.ensures).read.wf, omega arith)
 
 pub returns-in-Failed-parse_type_part : goal.returns-in-Failed-parse_type_part
 returns-in-Failed-parse_type_part c =
@@ -50,14 +54,16 @@ returns-in-Failed-parse_type_part c =
 
 pub returns-in-Failed-consume_token-2 : goal.returns-in-Failed-consume_token-2
 returns-in-Failed-consume_token-2 c =
+    let at = goal.at.returns-in-Failed-consume_token-2 c in
     let consume-token3 = c.consume_token-in-Passed-parse_type_part-2 in
     let consume-token2 = c.consume_token-in-Passed-parse_type_part in
-    index_fails (named (goal.at.returns-in-Failed-consume_token-2 c).In-Passed) (typed (goal.at.returns-in-Failed-consume_token-2 c).In-Passed-parse_type_part) (rw c.in-Passed-consume_token.is at consume-token2.ensures)
+    index_fails (named at.In-Passed) (typed at.In-Passed-parse_type_part) (rw c.in-Passed-consume_token.is at consume-token2.ensures)
     (rw c.in-Failed-consume_token-2.is at consume-token3.ensures)
 
 pub returns-in-Passed-consume_token-2 : goal.returns-in-Passed-consume_token-2
 returns-in-Passed-consume_token-2 c =
+    let at = goal.at.returns-in-Passed-consume_token-2 c in
     let consume-token3 = c.consume_token-in-Passed-parse_type_part-2 in
     let consume-token2 = c.consume_token-in-Passed-parse_type_part in
-    field (named (goal.at.returns-in-Passed-consume_token-2 c).In-Passed) (typed (goal.at.returns-in-Passed-consume_token-2 c).In-Passed-parse_type_part) (rw c.in-Passed-consume_token.is at consume-token2.ensures)
+    field (named at.In-Passed) (typed at.In-Passed-parse_type_part) (rw c.in-Passed-consume_token.is at consume-token2.ensures)
     (rw c.in-Passed-consume_token-2.is at consume-token3.ensures)

@@ -59,12 +59,14 @@ consume_token-requires-2 c = ((rw c.in-Passed.is at c.consume_token.ensures).rea
 
 pub returns-in-Failed-consume_token : goal.returns-in-Failed-consume_token
 returns-in-Failed-consume_token c =
+    let at = goal.at.returns-in-Failed-consume_token c in
     let consume-token2 = c.consume_token-2 in
     let consume-token = c.consume_token in
-    left_fails (begun (goal.at.returns-in-Failed-consume_token c).After-name_number) (rw c.in-Passed.is at consume-token.ensures) (rw c.in-Failed-consume_token.is at consume-token2.ensures)
+    left_fails (begun at.After-name_number) (rw c.in-Passed.is at consume-token.ensures) (rw c.in-Failed-consume_token.is at consume-token2.ensures)
 
 pub returns-in-Passed-consume_token : goal.returns-in-Passed-consume_token
 returns-in-Passed-consume_token c =
+    let at = goal.at.returns-in-Passed-consume_token c in
     let consume-token2 = c.consume_token-2 in
     let consume-token = c.consume_token in
-    head (begun (goal.at.returns-in-Passed-consume_token c).After-name_number) (rw c.in-Passed.is at consume-token.ensures) (rw c.in-Passed-consume_token.is at consume-token2.ensures)
+    head (begun at.After-name_number) (rw c.in-Passed.is at consume-token.ensures) (rw c.in-Passed-consume_token.is at consume-token2.ensures)

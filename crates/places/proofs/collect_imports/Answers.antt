@@ -49,7 +49,9 @@ pub parse_import-requires : goal.parse_import-requires
 parse_import-requires c = (c.loop-sound.invariant.wf, omega (arith, c.kind_or_end.ensures, c.loop-sound-test.true))
 
 pub loop-sound-smaller-in-Failed : goal.loop-sound-smaller-in-Failed
-loop-sound-smaller-in-Failed c = omega (arith, later (broke (goal.at.loop-sound-smaller-in-Failed c).In-Failed), (broke (goal.at.loop-sound-smaller-in-Failed c).In-Failed).wf.inside)
+loop-sound-smaller-in-Failed c =
+    let at = goal.at.loop-sound-smaller-in-Failed c in
+    omega (arith, later (broke at.In-Failed), (broke at.In-Failed).wf.inside)
 
 pub loop-sound-preserved-in-Failed : goal.loop-sound-preserved-in-Failed
 loop-sound-preserved-in-Failed c =
@@ -76,7 +78,9 @@ pub overflow_add-n : goal.overflow_add-n
 overflow_add-n c = record { fits = omega (arith, room (goal.at.overflow_add-n c).Joined-name_of-eq0) }
 
 pub loop-sound-smaller : goal.loop-sound-smaller
-loop-sound-smaller c = omega (arith, later (passed (goal.at.loop-sound-smaller c).In-Passed).read, (passed (goal.at.loop-sound-smaller c).In-Passed).read.wf.inside)
+loop-sound-smaller c =
+    let at = goal.at.loop-sound-smaller c in
+    omega (arith, later (passed at.In-Passed).read, (passed at.In-Passed).read.wf.inside)
 
 pub loop-sound-preserved : goal.loop-sound-preserved
 loop-sound-preserved c =

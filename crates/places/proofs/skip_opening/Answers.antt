@@ -37,19 +37,25 @@ returns-then-not-is_keyword c =
     (rw (← kind-or-end2.ensures) (sym is-keyword.ensures ∙ c.if-not-is_keyword.true))
 
 pub start_at-requires : goal.start_at-requires
-start_at-requires c = second_stands (comment (goal.at.start_at-requires c).Else-not-is_keyword) c.next-past.ensures (keyword (goal.at.start_at-requires c).Else-not-is_keyword)
+start_at-requires c =
+    let at = goal.at.start_at-requires c in
+    second_stands (comment at.Else-not-is_keyword) c.next-past.ensures (keyword at.Else-not-is_keyword)
 
 pub returns-then-end_at-start_at : goal.returns-then-end_at-start_at
 returns-then-end_at-start_at c =
+    let at = goal.at.returns-then-end_at-start_at c in
     let start-at = c.start_at in
     let end-at = c.end_at in
     let next = c.next-past in
-    opened_far (comment (goal.at.returns-then-end_at-start_at c).Else-not-is_keyword) next.ensures (keyword (goal.at.returns-then-end_at-start_at c).Else-not-is_keyword) (rw (← end-at.ensures, ← start-at.ensures) c.if-end_at-start_at.true)
+    opened_far (comment at.Else-not-is_keyword) next.ensures (keyword at.Else-not-is_keyword)
+    (rw (← end-at.ensures, ← start-at.ensures) c.if-end_at-start_at.true)
 
 pub returns : goal.returns
 returns c =
+    let at = goal.at.returns c in
     let start-at = c.start_at in
     let end-at = c.end_at in
     let next = c.next-past in
     let pre = c.requires in
-    opened_near (comment (goal.at.returns c).Else-not-is_keyword) next.ensures (keyword (goal.at.returns c).Else-not-is_keyword) pre (rw (← end-at.ensures, ← start-at.ensures) c.if-end_at-start_at.false)
+    opened_near (comment at.Else-not-is_keyword) next.ensures (keyword at.Else-not-is_keyword) pre
+    (rw (← end-at.ensures, ← start-at.ensures) c.if-end_at-start_at.false)

@@ -13,25 +13,25 @@ parse_schema-needed-requires c = let pre = c.requires in judgeable pre (search r
 pub read_schema-requires : goal.read_schema-requires
 read_schema-requires c =
     let if1 = c.if-needed-eq0 in
-    let parse_schema_lem = c.parse_schema-needed in
+    let judged = c.parse_schema-needed in
     let pre = c.requires in
-    clean pre parse_schema_lem.ensures.number if1.true (search rules) (search rules)
+    clean pre judged.ensures.number if1.true (search rules) (search rules)
 
 pub returns-then-needed-eq0 : goal.returns-then-needed-eq0
 returns-then-needed-eq0 c =
     let read-schema = c.read_schema in
-    let parse_schema_lem = c.parse_schema-needed in
+    let judged = c.parse_schema-needed in
     let args = c.args in
-    rw (measured.nothing args.out.now parse_schema_lem.ensures.wrote) at read-schema.ensures
+    rw (measured.nothing args.out.now judged.ensures.wrote) at read-schema.ensures
 
 pub returns-then-out-needed : goal.returns-then-out-needed
 returns-then-out-needed c =
     let if1 = c.if-needed-eq0 in
-    let parse_schema_lem = c.parse_schema-needed in
+    let judged = c.parse_schema-needed in
     let args = c.args in
     let pre = c.requires in
     let o = args.out.now in
-    let m = parse_schema_lem.ensures in
+    let m = judged.ensures in
     let k : length o < 18446744073709551615 = omega arith in
     rw (measured.nothing o m.wrote)
     (too_long args.t.now o pre.checked.decodes (errors_some _ m.number if1.false) (measured.too_long o m.wrote k c.if-out-needed.true))
@@ -46,12 +46,12 @@ returns c =
     let parse-schema2 = c.parse_schema-list in
     let if2 = c.if-out-needed in
     let if1 = c.if-needed-eq0 in
-    let parse_schema_lem = c.parse_schema-needed in
+    let judged = c.parse_schema-needed in
     let args = c.args in
     let good = c.well_formed in
     let pre = c.requires in
     let o = args.out.now in
-    let m = parse_schema_lem.ensures in
+    let m = judged.ensures in
     let k : length o < 18446744073709551615 = omega (arith, good.1.0) in
     let f = if2.false in
     errors_written args.t.now o pre.checked.decodes (errors_some _ m.number if1.false) (measured.fits o m.wrote k f)

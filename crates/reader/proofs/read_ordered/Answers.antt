@@ -17,26 +17,26 @@ parse_schema-errors-requires c =
 pub read_schema-requires : goal.read_schema-requires
 read_schema-requires c =
     let if2 = c.if-errors-eq0 in
-    let parse_schema_lem = c.parse_schema-errors in
+    let judged = c.parse_schema-errors in
     let pre = c.requires in
-    clean pre parse_schema_lem.ensures.number if2.true (search rules) (search rules)
+    clean pre judged.ensures.number if2.true (search rules) (search rules)
 
 pub returns-then-errors-eq0 : goal.returns-then-errors-eq0
 returns-then-errors-eq0 c =
     let read-schema = c.read_schema in
     let if2 = c.if-errors-eq0 in
-    let parse_schema_lem = c.parse_schema-errors in
-    let e = parse_schema_lem.ensures in
+    let judged = c.parse_schema-errors in
+    let e = judged.ensures in
     rw (untouched _ e.wrote e.number if2.true) at read-schema.ensures
 
 pub returns : goal.returns
 returns c =
-    let parse_schema_lem = c.parse_schema-errors in
+    let judged = c.parse_schema-errors in
     let if1 = c.if-out-items in
     let args = c.args in
     let pre = c.requires in
     let o = args.out.now in
     let k : length o < 18446744073709551615 = omega arith in
-    let e = parse_schema_lem.ensures in
+    let e = judged.ensures in
     let f = errors_fit (tokens_from args.t.now 0) (length args.items.now) o pre.list if1.false in
     errors_written args.t.now o pre.checked.decodes (errors_some _ e.number c.if-errors-eq0.false) (le-leb _ _ f) (landed o _ k f e.wrote)

@@ -19,10 +19,14 @@ comment_at-comment-requires c =
     comment_here pre.stands.first args.f.commented pre.wf.comment
 
 pub overflow_add-size-2 : goal.overflow_add-size-2
-overflow_add-size-2 c = record { fits = omega (arith, short (goal.at.overflow_add-size-2 c).After-comment_at-comment, whole_short c.comment_at-comment.ensures.whole) }
+overflow_add-size-2 c =
+    let at = goal.at.overflow_add-size-2 c in
+    record { fits = omega (arith, short at.After-comment_at-comment, whole_short c.comment_at-comment.ensures.whole) }
 
 pub overflow_cast-size : goal.overflow_cast-size
-overflow_cast-size c = record { fits = omega (arith, short (goal.at.overflow_cast-size c).After-comment_at-comment, whole_short c.comment_at-comment.ensures.whole) }
+overflow_cast-size c =
+    let at = goal.at.overflow_cast-size c in
+    record { fits = omega (arith, short at.After-comment_at-comment, whole_short c.comment_at-comment.ensures.whole) }
 
 pub put_described-requires : goal.put_described-requires
 put_described-requires c =

@@ -35,11 +35,12 @@ name_of-requires c = sized-at (goal.at.name_of-requires c).Else-not-is_sized
 pub returns-then-not-is_name : goal.returns-then-not-is_name
 unfolding is_custom
 returns-then-not-is_name c =
+    let at = goal.at.returns-then-not-is_name c in
     let is-name2 = c.is_name-2 in
     let name_of = c.name_of in
     let if2 = c.if-u16_at-eq0 in
     let u16-at = c.u16_at in
-    rw (sized-at (goal.at.returns-then-not-is_name c).Else-not-is_sized, ← u16-at.ensures, ne_eqb _ _ if2.false, ← name_of.ensures, ← is-name2.ensures) (search choice)
+    rw (sized-at at.Else-not-is_sized, ← u16-at.ensures, ne_eqb _ _ if2.false, ← name_of.ensures, ← is-name2.ensures) (search choice)
 
 pub after_name-requires-2 : goal.after_name-requires-2
 after_name-requires-2 c =
@@ -48,9 +49,10 @@ after_name-requires-2 c =
 pub returns : goal.returns
 unfolding is_custom
 returns c =
+    let at = goal.at.returns c in
     let after-name2 = c.after_name-2 in
     let is-name2 = c.is_name-2 in
     let name_of = c.name_of in
     let if2 = c.if-u16_at-eq0 in
     let u16-at = c.u16_at in
-    rw (sized-at (goal.at.returns c).Else-not-is_sized, ← u16-at.ensures, ne_eqb _ _ if2.false, ← name_of.ensures, ← is-name2.ensures, ← after-name2.ensures) (search choice)
+    rw (sized-at at.Else-not-is_sized, ← u16-at.ensures, ne_eqb _ _ if2.false, ← name_of.ensures, ← is-name2.ensures, ← after-name2.ensures) (search choice)

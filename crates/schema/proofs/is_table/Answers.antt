@@ -12,10 +12,10 @@ whole_here : (c : Else-not-is_whole) →
     let args = c.args in
     WholeAt args.t.now loop.at
 whole_here c =
-    let is_whole_lem = c.is_whole in
+    let is_whole = c.is_whole in
     let loop-test = c.loop-at-test in
     let loop = c.loop-at in
-    judged_whole loop.invariant loop-test.true (sym is_whole_lem.ensures ∙ c.if-not-is_whole.false)
+    judged_whole loop.invariant loop-test.true (sym is_whole.ensures ∙ c.if-not-is_whole.false)
 
 right-here : (c : Else-not-is_right) →
     let loop = c.loop-at in
@@ -32,10 +32,10 @@ loop-at-init c = judging _
 
 pub returns-then-not-is_whole : goal.returns-then-not-is_whole
 returns-then-not-is_whole c =
-    let is_whole_lem = c.is_whole in
+    let is_whole = c.is_whole in
     let loop-test = c.loop-at-test in
     let loop = c.loop-at in
-    judged_cut loop.invariant loop-test.true (sym is_whole_lem.ensures ∙ c.if-not-is_whole.true)
+    judged_cut loop.invariant loop-test.true (sym is_whole.ensures ∙ c.if-not-is_whole.true)
 
 pub kind_at-k-requires : goal.kind_at-k-requires
 kind_at-k-requires c = omega (arith, whole_here (goal.at.kind_at-k-requires c).Else-not-is_whole)
@@ -51,11 +51,12 @@ is_right-requires c =
 
 pub returns-then-not-is_right : goal.returns-then-not-is_right
 returns-then-not-is_right c =
+    let at = goal.at.returns-then-not-is_right c in
     let is_right = c.is_right in
     let payload-at = c.payload_at-p in
     let kind_at = c.kind_at-k in
     let loop = c.loop-at in
-    judged_wrong loop.invariant (whole_here (goal.at.returns-then-not-is_right c).Else-not-is_whole) (rw (kind_at.ensures, payload-at.ensures) at (sym is_right.ensures ∙ c.if-not-is_right.true))
+    judged_wrong loop.invariant (whole_here at.Else-not-is_whole) (rw (kind_at.ensures, payload-at.ensures) at (sym is_right.ensures ∙ c.if-not-is_right.true))
 
 pub payload_at-requires : goal.payload_at-requires
 payload_at-requires c =
@@ -64,23 +65,27 @@ payload_at-requires c =
 
 pub is_later-requires : goal.is_later-requires
 is_later-requires c =
+    let at = goal.at.is_later-requires c in
     let payload-at = c.payload_at-p in
     let kind_at = c.kind_at-k in
     let loop = c.loop-at in
     let pre = c.requires in (
       pre,
-      λ i l.
-          (rw c.payload_at.ensures (loop.invariant.sized l), rw payload-at.ensures (import_sized _ _ _ _ (right-here (goal.at.is_later-requires c).Else-not-is_right) (sym kind_at.ensures ∙ i))),
+      λ i l. (
+        rw c.payload_at.ensures (loop.invariant.sized l),
+        rw payload-at.ensures (import_sized _ _ _ _ (right-here at.Else-not-is_right) (sym kind_at.ensures ∙ i)),
+      ),
     )
 
 pub returns-then-not-is_later : goal.returns-then-not-is_later
 returns-then-not-is_later c =
+    let at = goal.at.returns-then-not-is_later c in
     let is_later = c.is_later in
     let payload-at2 = c.payload_at in
     let payload-at = c.payload_at-p in
     let kind_at = c.kind_at-k in
     let loop = c.loop-at in
-    judged_early loop.invariant (whole_here (goal.at.returns-then-not-is_later c).Else-not-is_whole) (right-here (goal.at.returns-then-not-is_later c).Else-not-is_right)
+    judged_early loop.invariant (whole_here at.Else-not-is_whole) (right-here at.Else-not-is_right)
     (rw (kind_at.ensures, payload-at.ensures, payload-at2.ensures) at (sym is_later.ensures ∙ c.if-not-is_later.true))
 
 pub row_after-row-requires : goal.row_after-row-requires

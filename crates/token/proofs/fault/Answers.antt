@@ -41,5 +41,5 @@ returns c =
     let u32-at = c.u32_at-start in
     let u16-at2 = c.u16_at-kind in
     let u16-at = c.u16_at-size in
-    let is_whole_lem = c.is_whole in
-    rw (← is_whole_lem.ensures, ← u16-at.ensures, ← u16-at2.ensures, ← u32-at.ensures, ← u32-at2.ensures) (search choice)
+    let is_whole = c.is_whole in
+    rw (← is_whole.ensures, ← u16-at.ensures, ← u16-at2.ensures, ← u32-at.ensures, ← u32-at2.ensures) (search choice)

@@ -29,26 +29,31 @@ returns-then-p-gt-LONGEST c = search choice
 
 pub returns-then-class_in-lt6 : goal.returns-then-class_in-lt6
 unfolding is_identifier
-returns-then-class_in-lt6 c = rw (class_fails class_start (first (goal.at.returns-then-class_in-lt6 c).After-class_in) c.class_in.ensures c.if-class_in-lt6.true) (search choice)
+returns-then-class_in-lt6 c =
+    let at = goal.at.returns-then-class_in-lt6 c in
+    rw (class_fails class_start (first at.After-class_in) c.class_in.ensures c.if-class_in-lt6.true) (search choice)
 
 pub loop-i-init : goal.loop-i-init
 unfolding is_identifier
 loop-i-init c =
-    record { inside = omega arith; left = rw (class_passes class_start (first (goal.at.loop-i-init c).After-class_in) c.class_in.ensures c.if-class_in-lt6.false) (search choice) }
+    let at = goal.at.loop-i-init c in
+    record { inside = omega arith; left = rw (class_passes class_start (first at.After-class_in) c.class_in.ensures c.if-class_in-lt6.false) (search choice) }
 
 pub returns-then-class_in-lt4 : goal.returns-then-class_in-lt4
 returns-then-class_in-lt4 c =
+    let at = goal.at.returns-then-class_in-lt4 c in
     let class-in2 = c.class_in-in-loop-i in
     let loop-test = c.loop-i-test in
     let loop = c.loop-i in
-    asked_no loop.invariant loop-test.true (class_fails class_name (small (goal.at.returns-then-class_in-lt4 c).After-class_in-in-loop-i) class-in2.ensures c.if-class_in-lt4.true)
+    asked_no loop.invariant loop-test.true (class_fails class_name (small at.After-class_in-in-loop-i) class-in2.ensures c.if-class_in-lt4.true)
 
 pub loop-i-preserved : goal.loop-i-preserved
 loop-i-preserved c =
+    let at = goal.at.loop-i-preserved c in
     let class-in2 = c.class_in-in-loop-i in
     let loop-test = c.loop-i-test in
     let loop = c.loop-i in
-    asked_yes loop.invariant loop-test.true (class_passes class_name (small (goal.at.loop-i-preserved c).After-class_in-in-loop-i) class-in2.ensures c.if-class_in-lt4.false)
+    asked_yes loop.invariant loop-test.true (class_passes class_name (small at.After-class_in-in-loop-i) class-in2.ensures c.if-class_in-lt4.false)
 
 pub returns : goal.returns
 returns c = asked_all c.loop-i.invariant c.loop-i-test.false

@@ -24,17 +24,19 @@ loop-i-init c = record { inside = omega arith; left = search choice }
 
 pub returns-then-class_in-lt2 : goal.returns-then-class_in-lt2
 returns-then-class_in-lt2 c =
+    let at = goal.at.returns-then-class_in-lt2 c in
     let class-in = c.class_in in
     let loop-test = c.loop-i-test in
     let loop = c.loop-i in
-    asked_no loop.invariant loop-test.true (class_fails class_path (small (goal.at.returns-then-class_in-lt2 c).After-class_in) class-in.ensures c.if-class_in-lt2.true)
+    asked_no loop.invariant loop-test.true (class_fails class_path (small at.After-class_in) class-in.ensures c.if-class_in-lt2.true)
 
 pub loop-i-preserved : goal.loop-i-preserved
 loop-i-preserved c =
+    let at = goal.at.loop-i-preserved c in
     let class-in = c.class_in in
     let loop-test = c.loop-i-test in
     let loop = c.loop-i in
-    asked_yes loop.invariant loop-test.true (class_passes class_path (small (goal.at.loop-i-preserved c).After-class_in) class-in.ensures c.if-class_in-lt2.false)
+    asked_yes loop.invariant loop-test.true (class_passes class_path (small at.After-class_in) class-in.ensures c.if-class_in-lt2.false)
 
 pub returns : goal.returns
 returns c = asked_all c.loop-i.invariant c.loop-i-test.false

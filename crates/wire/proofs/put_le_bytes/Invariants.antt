@@ -7,7 +7,8 @@ use Rattle.wire.proofs.Laws.{Rest}
 use Rattle.wire.proofs.put_le_bytes.Given as goal
 
 abbrev pub invariant-loop-j : goal.invariant-loop-j
-invariant-loop-j l = Rest l.out l.a (le_bytes l.j l.m) l.initial.out l.initial.a (le_bytes l.initial.j l.initial.m) × (l.m < 2 ^ 64) × (length l.out ≡ length l.initial.out)
+invariant-loop-j l =
+    Rest l.out l.a (le_bytes l.j l.m) l.initial.out l.initial.a (le_bytes l.initial.j l.initial.m) × (l.m < 2 ^ 64) × (length l.out ≡ length l.initial.out)
 
 abbrev pub decreases-loop-j : goal.decreases-loop-j
 decreases-loop-j l = l.j

@@ -8,7 +8,8 @@ use Rattle.wire.proofs.store_le.Given as goal
 
 abbrev pub invariant-loop-i : goal.invariant-loop-i
 invariant-loop-i l =
-    (l.i ≤ length l.initial.to) × (length l.to ≡ length l.initial.to) × (take l.i l.to ++ le_bytes (length l.initial.to - l.i) l.m ≡ le_bytes (length l.initial.to) l.n)
+    (l.i ≤ length l.initial.to) × (length l.to ≡ length l.initial.to)
+    × (take l.i l.to ++ le_bytes (length l.initial.to - l.i) l.m ≡ le_bytes (length l.initial.to) l.n)
 
 abbrev pub decreases-loop-i : goal.decreases-loop-i
 decreases-loop-i l = length l.initial.to - l.i

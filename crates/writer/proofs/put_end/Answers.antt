@@ -33,10 +33,11 @@ next_at-next-requires c =
 
 pub returns-then-kind_at-eq-DELETED : goal.returns-then-kind_at-eq-DELETED
 returns-then-kind_at-eq-DELETED c =
+    let at = goal.at.returns-then-kind_at-eq-DELETED c in
     let put-slice = c.put_slice-b in
     let put-deleted = c.put_deleted-a in
     let payload-at = c.payload_at in
-    ended_deleted (here (goal.at.returns-then-kind_at-eq-DELETED c).Then-kind_at-eq-DELETED) c.next_at-next.ensures (rw payload-at.ensures at put-deleted.ensures) put-slice.ensures
+    ended_deleted (here at.Then-kind_at-eq-DELETED) c.next_at-next.ensures (rw payload-at.ensures at put-deleted.ensures) put-slice.ensures
 
 pub returns : goal.returns
 returns c =

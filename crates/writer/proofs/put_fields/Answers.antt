@@ -67,10 +67,11 @@ put_field-a-requires c =
 
 pub loop-at-smaller : goal.loop-at-smaller
 loop-at-smaller c =
+    let at = goal.at.loop-at-smaller c in
     let next-at2 = c.next_at-at in
     let innermost = c.innermost-inner in
     let next-at = c.next_at-next in
-    omega (arith, (here (goal.at.loop-at-smaller c).Else-kind_at-ne-FIELD).whole, (inside (goal.at.loop-at-smaller c).After-innermost-inner).whole, next-at2.ensures, innermost.ensures, next-at.ensures)
+    omega (arith, (here at.Else-kind_at-ne-FIELD).whole, (inside at.After-innermost-inner).whole, next-at2.ensures, innermost.ensures, next-at.ensures)
 
 pub loop-at-preserved : goal.loop-at-preserved
 loop-at-preserved c =

@@ -28,15 +28,18 @@ pub payload_at-requires : goal.payload_at-requires
 payload_at-requires c = (here (goal.at.payload_at-requires c).Then-kind_at-eq-COMMENT).whole
 
 pub put_comment-a-requires : goal.put_comment-a-requires
-put_comment-a-requires c = (omega arith, rw c.payload_at.ensures (comment_parts _ (here (goal.at.put_comment-a-requires c).Then-kind_at-eq-COMMENT).right).paragraphs)
+put_comment-a-requires c =
+    let at = goal.at.put_comment-a-requires c in
+    (omega arith, rw c.payload_at.ensures (comment_parts _ (here at.Then-kind_at-eq-COMMENT).right).paragraphs)
 
 pub returns-then-kind_at-eq-COMMENT : goal.returns-then-kind_at-eq-COMMENT
 returns-then-kind_at-eq-COMMENT c =
+    let at = goal.at.returns-then-kind_at-eq-COMMENT c in
     let put-blank = c.put_blank-b in
     let put-comment = c.put_comment-a in
     let payload-at = c.payload_at in
     let next-at = c.next_at-next in
-    commented (here (goal.at.returns-then-kind_at-eq-COMMENT c).Then-kind_at-eq-COMMENT) next-at.ensures (rw payload-at.ensures at put-comment.ensures) put-blank.ensures
+    commented (here at.Then-kind_at-eq-COMMENT) next-at.ensures (rw payload-at.ensures at put-comment.ensures) put-blank.ensures
 
 pub returns-else-kind_at-eq-COMMENT : goal.returns-else-kind_at-eq-COMMENT
 returns-else-kind_at-eq-COMMENT c =
