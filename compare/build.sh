@@ -7,8 +7,8 @@ cd "$(dirname "$0")"
 ./strip.py ours.rs names reader writer
 features=diff/ours
 if [ "$(uname -m)" = x86_64 ]; then
-    (cd .. && rt staticlib typical)
-    LIBRARY_A=$(cd .. && pwd)/target/staticlib/libtypical.a
+    (cd ../crates/typical && rt lib)
+    LIBRARY_A=$(cd .. && pwd)/crates/typical/out/libtypical.a
     export LIBRARY_A
     features=$features,diff/library
 fi

@@ -31,7 +31,7 @@ SIDES = {"library": "here", "ours": "here, by rustc"}
 
 
 HERE = {
-    "library": "*Here* is the static library that Rattle's compiler makes of the proved source (`rt staticlib typical`); *here, by rustc* is the same source without its contracts, compiled by rustc as the Rust is.",
+    "library": "*Here* is the static library that Rattle's compiler makes of the proved source (`rt lib`); *here, by rustc* is the same source without its contracts, compiled by rustc as the Rust is.",
     "ours": "*Here, by rustc* is the project's own source without its contracts, compiled by rustc as the Rust is; the static library links on x86-64 only.",
 }
 

@@ -2,7 +2,7 @@
 """strip.py OUT.rs CRATE..: the Rattle source of the crates without its contracts, a Rust module for each crate, for rustc.
 
 The crates that these need, by crates.txt, come along. What the prover showed stays true of the stripped source: only `ghost`
-lines, `requires` and `ensures` are taken out, plain data is made `Copy`, and a function with a large array stays a function. Run
+lines, `requires`, `ensures` and Rattle's own attributes are taken out, plain data is made `Copy`, and a function with a large array stays a function. Run
 it from anywhere.
 """
 import pathlib
@@ -16,6 +16,7 @@ CLAUSE = re.compile(r"^[ \t]*(requires|ensures|ghost)\b[^\n{]*\{", re.M)
 
 def without_clauses(text):
     text = re.sub(r"^ghost use [^;]*;\n", "", text, flags=re.M)
+    text = re.sub(r"^#!?\[(tactic|cycle|derive)\([^\n]*\)\]\n", "", text, flags=re.M)
     kept, place = [], 0
     while match := CLAUSE.search(text, place):
         kept.append(text[place:match.start()])
@@ -55,7 +56,7 @@ def module(path, crates):
 
 def with_dependencies(wanted):
     lines = (line.split(":") for line in (ROOT / "crates.txt").read_text().splitlines() if line)
-    needs = {name: rest.split() for name, rest in lines}
+    needs = {name.split()[0]: rest.split() for name, rest in lines}
     found = []
     def visit(name):
         if name not in found:
