@@ -20,7 +20,7 @@ use sorted::Key;
 use token::kind;
 
 // What is written so far ends at `out`; reading goes on at `next`.
-#[derive(Drop)]
+#[derive(Clone, Copy, Drop)]
 pub struct Emitted {
     pub out: usize,
     pub next: Cursor,

@@ -144,7 +144,7 @@ fn next_byte(
     }
 }
 
-#[derive(Drop)]
+#[derive(Clone, Copy, Drop)]
 pub struct Form {
     pub bytes: [u8; 256],
     pub len: usize,
@@ -303,7 +303,7 @@ pub fn put_pascal(out: &mut [u8], at: usize, name: &[u8]) -> usize
     put_form(out, at, name, true, false)
 }
 
-#[derive(Drop)]
+#[derive(Clone, Copy, Drop)]
 pub enum Order {
     Less,
     Equal,

@@ -16,7 +16,7 @@ ghost use Rattle.names.specs.Answer.{Answers, with_steps, Relatives, compared_as
 
 use identifier::{Form, Order};
 
-#[derive(Drop)]
+#[derive(Clone, Copy, Drop)]
 pub enum Answer {
     Written(usize),
     Refused(u16, usize),
@@ -86,7 +86,7 @@ pub fn pascal_case(out: &mut [u8], name: &[u8]) -> Answer
     Answer::Refused(10, 0)
 }
 
-#[derive(Drop)]
+#[derive(Clone, Copy, Drop)]
 pub enum Compared {
     Less,
     Equal,
@@ -114,7 +114,7 @@ pub fn cmp(a: &[u8], b: &[u8]) -> Compared
     Compared::Refused(10, 0)
 }
 
-#[derive(Drop)]
+#[derive(Clone, Copy, Drop)]
 pub enum Sameness {
     Same,
     Different,
@@ -176,7 +176,7 @@ fn is_kept(name: &[u8]) -> bool
     identifier::same(&bytes[..len], name)
 }
 
-#[derive(Drop)]
+#[derive(Clone, Copy, Drop)]
 pub enum Survival {
     Survives,
     Changes,
@@ -336,7 +336,7 @@ fn common(a: &[u8], b: &[u8]) -> Places
     Places { one: i, other: j }
 }
 
-#[derive(Drop)]
+#[derive(Clone, Copy, Drop)]
 pub enum Relative {
     Written(usize, usize),
     Refused(u16, usize),

@@ -41,7 +41,7 @@ pub fn next(t: &[u8], c: Cursor) -> Cursor
     }
 }
 
-#[derive(Drop)]
+#[derive(Clone, Copy, Drop)]
 pub enum TokenStep {
     Passed(Cursor),
     Failed(u16, Cursor),
@@ -59,7 +59,7 @@ fn consume_token(t: &[u8], c: Cursor, kind: u16, number: u16) -> TokenStep
 }
 
 // Whether an optional token stood there, and the cursor past it.
-#[derive(Drop)]
+#[derive(Clone, Copy, Drop)]
 pub struct Skip {
     pub there: bool,
     pub next: Cursor,
@@ -107,7 +107,7 @@ pub struct TypePlaces {
     pub close: usize,
 }
 
-#[derive(Drop)]
+#[derive(Clone, Copy, Drop)]
 pub enum TypeStep {
     Passed(TypePlaces, Cursor),
     Failed(u16, Cursor),
@@ -228,7 +228,7 @@ pub enum PartPlaces {
     Present(usize, TypePlaces),
 }
 
-#[derive(Drop)]
+#[derive(Clone, Copy, Drop)]
 pub enum PartStep {
     Passed(PartPlaces, Cursor),
     Failed(u16, Cursor),
@@ -260,7 +260,7 @@ pub struct FieldPlaces {
     pub index: usize,
 }
 
-#[derive(Drop)]
+#[derive(Clone, Copy, Drop)]
 pub enum FieldStep {
     Passed(FieldPlaces, Cursor),
     Failed(u16, Cursor),
@@ -304,7 +304,7 @@ pub fn parse_field(t: &[u8], c: Cursor) -> FieldStep
 }
 
 // Where a declaration's head stands, up to its `{`: a comment at `first` where it is commented.
-#[derive(Drop)]
+#[derive(Clone, Copy, Drop)]
 pub struct HeadPlaces {
     pub first: usize,
     pub commented: bool,
@@ -312,7 +312,7 @@ pub struct HeadPlaces {
     pub name: usize,
 }
 
-#[derive(Drop)]
+#[derive(Clone, Copy, Drop)]
 pub enum HeadStep {
     Passed(HeadPlaces, Cursor),
     Failed(u16, Cursor),
@@ -360,7 +360,7 @@ pub fn parse_head(t: &[u8], c: Cursor) -> HeadStep
 }
 
 // Where an import stands: `import` at `first`, its path, and its last token, which is the name after `as` where it is aliased, and else the path.
-#[derive(Drop)]
+#[derive(Clone, Copy, Drop)]
 pub struct ImportPlaces {
     pub first: usize,
     pub path: usize,
@@ -368,7 +368,7 @@ pub struct ImportPlaces {
     pub last: usize,
 }
 
-#[derive(Drop)]
+#[derive(Clone, Copy, Drop)]
 pub enum ImportStep {
     Passed(ImportPlaces, Cursor),
     Failed(u16, Cursor),

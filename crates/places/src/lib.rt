@@ -12,7 +12,7 @@ use sorted::Key;
 use token::kind;
 
 // How many items were collected, and the cursor past what stands there.
-#[derive(Drop)]
+#[derive(Clone, Copy, Drop)]
 pub struct Collected {
     pub count: usize,
     pub next: Cursor,
@@ -105,7 +105,7 @@ fn collect_imports(t: &[u8], from: Cursor, items: &mut [u64]) -> Walked
 }
 
 // How many items are left, and whether two were the same.
-#[derive(Drop)]
+#[derive(Clone, Copy, Drop)]
 pub struct Arranged {
     pub count: usize,
     pub repeated: bool,

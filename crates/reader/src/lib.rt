@@ -8,7 +8,7 @@ ghost use Rattle.reader.specs.Answers.{Answers, Checked, Lent, Ready, Clean};
 use places::Ordered;
 
 // A refusal's number and the offset of the faulty record, or the length written.
-#[derive(Drop)]
+#[derive(Clone, Copy, Drop)]
 pub enum Answer {
     Refused(u16, usize),
     Schema(usize),
@@ -16,7 +16,7 @@ pub enum Answer {
 }
 
 // The token table and the place that reading has come to.
-#[derive(Drop)]
+#[derive(Clone, Copy, Drop)]
 pub struct Reader<'a> {
     pub table: &'a [u8],
     pub at: usize,

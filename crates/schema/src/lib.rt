@@ -352,7 +352,7 @@ fn is_table(class: &[u8; 256], lower: &[u8; 256], upper: &[u8; 256], t: &[u8]) -
     may_follow(kind, 0)
 }
 
-#[derive(Drop)]
+#[derive(Clone, Copy, Drop)]
 pub enum Checked {
     Refused(u16),
     Fine,

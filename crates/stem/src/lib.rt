@@ -33,7 +33,7 @@ fn is_parent(part: &[u8]) -> bool
 }
 
 // A part of some bytes, from a place up to another.
-#[derive(Drop)]
+#[derive(Clone, Copy, Drop)]
 pub struct Part {
     pub from: usize,
     pub to: usize,

@@ -9,7 +9,7 @@ ghost use Rattle.stream.specs.Number.{InFourBytes};
 // A list has fewer entries than this: nothing says that an input ends, and a loop has to.
 const ENTRIES: u64 = 1000000;
 
-#[derive(Drop)]
+#[derive(Clone, Copy, Drop)]
 pub enum Next {
     End,
     Number(usize),

@@ -198,7 +198,7 @@ fn fault(class: &[u8; 256], last: u32, row: usize, bs: &[u8]) -> u16
 }
 
 // The refusal's number and the faulty record's offset, or how many tokens there are and where the last ends.
-#[derive(Drop)]
+#[derive(Clone, Copy, Drop)]
 pub enum Checked {
     Refused(u16, usize),
     Fine(usize, u32),

@@ -104,7 +104,7 @@ fn has_comment(p: &[u8]) -> bool
 }
 
 // A place of the table and one of the text.
-#[derive(Drop)]
+#[derive(Clone, Copy, Drop)]
 pub struct Walk {
     pub at: usize,
     pub to: usize,
@@ -227,7 +227,7 @@ fn put_schema(out: &mut [u8], at: usize, t: &[u8]) -> usize
 }
 
 // A refusal's number and the offset 0, or the length of the text.
-#[derive(Drop)]
+#[derive(Clone, Copy, Drop)]
 pub enum Written {
     Refused(u16, usize),
     Text(usize),
