@@ -9,11 +9,10 @@ pub returns-then-is_inferred : goal.returns-then-is_inferred
 unfolding import_text
 returns-then-is_inferred c =
     let put-slice3 = c.put_slice in
-    let if1 = c.if-is_inferred in
     let is-inferred = c.is_inferred in
     let put-slice2 = c.put_slice-b in
     let put-slice = c.put_slice-a in
-    wrote_yes _ _ _ (sym is-inferred.ensures ∙ if1.true) (then (then put-slice.ensures put-slice2.ensures) put-slice3.ensures)
+    wrote_yes _ _ _ (sym is-inferred.ensures ∙ c.if-is_inferred.true) (then (then put-slice.ensures put-slice2.ensures) put-slice3.ensures)
 
 pub returns : goal.returns
 unfolding import_text
@@ -21,9 +20,8 @@ returns c =
     let put_byte = c.put_byte in
     let put-snake = c.put_snake-d in
     let put-slice4 = c.put_slice-c in
-    let if1 = c.if-is_inferred in
     let is-inferred = c.is_inferred in
     let put-slice2 = c.put_slice-b in
     let put-slice = c.put_slice-a in
-    wrote_no _ _ _ (sym is-inferred.ensures ∙ if1.false)
+    wrote_no _ _ _ (sym is-inferred.ensures ∙ c.if-is_inferred.false)
     (then (then (then (then put-slice.ensures put-slice2.ensures) put-slice4.ensures) put-snake.ensures) put_byte.ensures)
