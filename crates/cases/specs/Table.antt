@@ -4,7 +4,7 @@ use Rattle.std.specs.Prelude.{List, [], ◌∷◌}
 use Rattle.wire.specs.Bytes.{Bytes, bytes}
 use Rattle.wire.specs.Pick.{pick}
 use Rattle.identifier.specs.Forms.{snake_of, pascal_of}
-use Rattle.identifier.specs.Survive.{survives as doesSurvive}
+use Rattle.identifier.specs.Survive.{survives as does_survive}
 use Rattle.token.specs.Table.{encode_tokens}
 use Rattle.grammar.specs.Quoted.{tokens_of}
 use Rattle.printed.specs.Printed.{printed}
@@ -17,7 +17,7 @@ abbrev pub told : Asked → Bytes
 told (prints text) = printed (encode_tokens (tokens_of text))
 told (pascal name) = pascal_of (bytes name)
 told (snake name) = snake_of (bytes name)
-told (survives name) = pick (doesSurvive (bytes name)) (bytes "yes") (bytes "no")
+told (survives name) = pick (does_survive (bytes name)) (bytes "yes") (bytes "no")
 
 pub record Case : Type 0 where
   pub asked : Asked

@@ -6,7 +6,7 @@ use native.Mathlib.Omega.{arith}
 use lib.ListN.{length}
 use Rattle.wire.specs.Bytes.{Bytes}
 use Rattle.wire.specs.Put.{Wrote}
-use Rattle.wire.proofs.Laws.{adv-is}
+use Rattle.wire.proofs.Laws.{adv_is}
 use Rattle.token.specs.Places.{tokens_from}
 use Rattle.token.proofs.Walk.{wf_few}
 use Rattle.grammar.specs.Error.{Error, errors_bytes}
@@ -23,7 +23,7 @@ use Rattle.collector.specs.declared.Imports.{Imports}
 -- the end of a list of errors that begins at `at`
 end_is : {o o' : Bytes} {at r : ℕ} (es : List Error) → Wrote o at (errors_bytes es) o' r → at ≤ 18446744073709551615
     → r ≡ min (at + 14 * length es) 18446744073709551615
-end_is {o} {o'} {at} {r} es w h = omega (arith, w.place, adv-is (errors_bytes es) at h, errors_length es)
+end_is {o} {o'} {at} {r} es w h = omega (arith, w.place, adv_is (errors_bytes es) at h, errors_length es)
 
 -- two lists, one after the other
 module _ (es ds : List Error) {o o₁ o₂ : Bytes} {out to : ℕ} (v : Wrote o 0 (errors_bytes es) o₁ out) (w : Wrote o₁ out (errors_bytes ds) o₂ to) where

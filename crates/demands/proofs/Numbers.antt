@@ -13,7 +13,7 @@ use Rattle.identifier.specs.Byte.{within}
 use Rattle.token.specs.Token.{Token}
 use Rattle.token.specs.Payload.{is_payload}
 use Rattle.token.specs.Table.{Decoded, refused, tokens, size_of, token_of, is_whole, row_after, token_fault, fault_of, add_token, decode_from, decode}
-use Rattle.token.proofs.Records.{decode_end, decode_full, decode_bad, decode-next}
+use Rattle.token.proofs.Records.{decode_end, decode_full, decode_bad, decode_next}
 
 same_number : {a b c d : ℕ} → ◌≡◌ {A = Decoded} (refused a b) (refused c d) → a ≡ c
 same_number h = cc
@@ -53,7 +53,7 @@ from_number (suc n) at last row (b ∷ bs) {k} {o} h = go (fault_of last row x) 
         → (decode_from n (at + size_of x) (token_of x).end (row_after row (token_of x).kind) (drop (size_of x) x) ≡ refused k o → (1 ≤ k) × (k ≤ 7))
         → (1 ≤ k) × (k ≤ 7)
     go zero e l ih =
-        let q = sym (decode-next at last row (suc n) x (λ z. omega arith) (omega arith) (sym e)) ∙ h in
+        let q = sym (decode_next at last row (suc n) x (λ z. omega arith) (omega arith) (sym e)) ∙ h in
         ih (add_refused (token_of x) _ (rw sub-one at q))
     go (suc f) e l ih =
         let q = same_number (sym (decode_bad at last row (suc n) x (λ z. omega arith) (omega arith) (suc f) e (λ z. omega arith)) ∙ h) in

@@ -54,10 +54,10 @@ some_indices : (ns : List ℕ) → (length ns ≡ 0 → ⊥) → record_bytes s_
 some_indices [] n = absurd (n refl)
 some_indices (x ∷ ns) n = refl
 
-pub indices-written : (t : Bytes) (items : List ℕ) {items' : List ℕ} {o : Bytes} {at : ℕ} {o₁ o₂ : Bytes} {a r : ℕ} → (length items ≡ 0 → ⊥)
+pub indices_written : (t : Bytes) (items : List ℕ) {items' : List ℕ} {o : Bytes} {at : ℕ} {o₁ o₂ : Bytes} {a r : ℕ} → (length items ≡ 0 → ⊥)
     → items' ≡ sort_by (item_before t Number) items
     → Wrote o at (head_bytes (12 + 8 * length items) s_deleted 0 0) o₁ a → Wrote o₁ a (indices items') o₂ r → Wrote o at (encode_deleted (sort_by ltb items)) o₂ r
-indices-written t items {items'} n e p q =
+indices_written t items {items'} n e p q =
     let k : length items' ≡ length items = ap length e ∙ sort_length (item_before t Number) items in
     rw (← numbers_sorted t items, ← e) (rw (some_indices items' λ z. n (sym k ∙ z)) at (put_record s_deleted 0 0 p q (omega (arith, indices-length items', k))))
 

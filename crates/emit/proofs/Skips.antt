@@ -40,15 +40,15 @@ skip_type (plain x) r w = skip_passes is_plain refl x r w
 skip_type (single n) r w = skip_is k_identifier refl n r w
 skip_type (dotted i d n) r w = skip_is k_identifier refl i _ w.0 ∙ skip_is k_dot refl d _ w.1 ∙ skip_is k_identifier refl n r w.2
 
-skip-part : (p : TypePart) (r : List Token) → WfTypePart p → skip is_other (y_type_part p r) ≡ skip is_other r
-skip-part p r w = skip_is k_colon refl p.colon _ w.colon ∙ skip_type p.type r w.type
+skip_part : (p : TypePart) (r : List Token) → WfTypePart p → skip is_other (y_type_part p r) ≡ skip is_other r
+skip_part p r w = skip_is k_colon refl p.colon _ w.colon ∙ skip_type p.type r w.type
 
 skip_field : (f : FieldTree) (r : List Token) → WfField f → skip is_other (y_field f r) ≡ skip is_other r
 skip_field f r w =
     skip_optionally ◌∷◌ (Is k_comment) (skip_is k_comment refl) f.comment _ w.comment
     ∙ skip_optionally ◌∷◌ (Passes is_rule) (skip_passes is_rule refl) f.rule _ w.rule
     ∙ skip_is k_identifier refl f.name _ w.name
-    ∙ skip_optionally y_type_part WfTypePart skip-part f.type _ w.type
+    ∙ skip_optionally y_type_part WfTypePart skip_part f.type _ w.type
     ∙ skip_is k_equals refl f.equals _ w.equals
     ∙ skip_is k_integer refl f.index r w.index
 

@@ -17,8 +17,8 @@ use Rattle.grammar.specs.Condition.{deleted_errors, declarations_errors}
 use Rattle.grammar.specs.Reading.{Result, ok, fail, is, consume, optional, Reading, is_end, parse_fields, parse_deleted}
 use Rattle.grammar.specs.Reading.{parse_keyword, name_number, parse_head, parse_right, parse_declaration, join, parse_declarations}
 use Rattle.grammar.proofs.Rules.{Read, fail≢ok, cons≢nil, both_nil, along, and_then_ok, not_kind, consume_sound}
-use Rattle.grammar.proofs.Rules.{consume_complete, token_sound, token_complete, optional-token_sound}
-use Rattle.grammar.proofs.Rules.{optional-token_complete, passes_is, is_passes, front_sound, front_complete, read_join}
+use Rattle.grammar.proofs.Rules.{consume_complete, token_sound, token_complete, optional_token_sound}
+use Rattle.grammar.proofs.Rules.{optional_token_complete, passes_is, is_passes, front_sound, front_complete, read_join}
 use Rattle.grammar.proofs.Fields.{fields_sound, fields_complete}
 use Rattle.grammar.proofs.Eats.{declaration_eats}
 
@@ -65,7 +65,7 @@ head_sound ts h =
     and_then_ok (parse_keyword c ts₁) _ h₁ λ k ts₂ p₂ h₂.
     and_then_ok (consume (name_number k) (is k_identifier) ts₂) _ h₂ λ n ts₃ p₃ h₃.
     and_then_ok (consume 4 (is k_left_curly) ts₃) _ h₃ λ l ts₄ p₄ h₄.
-    let q₁ = optional-token_sound (is k_comment) ts p₁ in
+    let q₁ = optional_token_sound (is k_comment) ts p₁ in
     let q₂ = keyword_sound c ts₁ p₂ in
     let q₃ = token_sound (name_number k) k_identifier ts₂ p₃ in
     let q₄ = token_sound 4 k_left_curly ts₃ p₄ in
@@ -74,7 +74,7 @@ head_sound ts h =
 head_complete : (h : HeadTree) (r : List Token) → WfHead h → parse_head (y_head h r) ≡ ok h r
 head_complete h r w =
     rw (
-      optional-token_complete (is k_comment) h.comment _ (passes_is k_comment h.comment w.comment)
+      optional_token_complete (is k_comment) h.comment _ (passes_is k_comment h.comment w.comment)
           (not_kind is_keyword h.keyword.kind k_comment w.keyword refl),
       parse_head,
     )

@@ -13,7 +13,7 @@ use Rattle.grammar.specs.Tree.{TypePart, FieldTree, optionally, each, y_type, y_
 use Rattle.grammar.specs.Error.{kind_at}
 use Rattle.grammar.specs.Reading.{Result, ok, fail, is, consume, optional, parse_type, parse_type_part, parse_field, is_end, parse_fields}
 use Rattle.grammar.proofs.Rules.{Read, cons≢nil, along, and_then_ok, not_kind, token_sound, token_complete, optional_sound}
-use Rattle.grammar.proofs.Rules.{optional-none, optional_some, optional-token_sound, optional-token_complete, passes_is, is_passes}
+use Rattle.grammar.proofs.Rules.{optional_none, optional_some, optional_token_sound, optional_token_complete, passes_is, is_passes}
 use Rattle.grammar.proofs.Types.{type_sound, type_complete}
 use Rattle.grammar.proofs.Eats.{field_eats}
 
@@ -27,7 +27,7 @@ part_sound =
 
 part_complete : (o : Option TypePart) (e : Token) (r : List Token) → IfAny WfTypePart o → Is k_equals e
     → optional (is k_colon) parse_type_part (optionally y_type_part o (e ∷ r)) ≡ ok o (e ∷ r)
-part_complete none e r w h = optional-none (is k_colon) parse_type_part (e ∷ r) (rw h)
+part_complete none e r w h = optional_none (is k_colon) parse_type_part (e ∷ r) (rw h)
 part_complete (some p) e r w h =
     optional_some (is k_colon) parse_type_part p.colon (y_type p.type (e ∷ r)) p (e ∷ r) (eq-eqb p.colon.kind k_colon w.colon)
     (rw (type_complete p.type (e ∷ r) w.type (rw h)))
@@ -40,8 +40,8 @@ field_sound ts h =
     and_then_ok (optional (is k_colon) parse_type_part ts₃) _ h₃ λ y ts₄ p₄ h₄.
     and_then_ok (consume 12 (is k_equals) ts₄) _ h₄ λ e ts₅ p₅ h₅.
     and_then_ok (consume 13 (is k_integer) ts₅) _ h₅ λ i ts₆ p₆ h₆.
-    let q₁ = optional-token_sound (is k_comment) ts p₁ in
-    let q₂ = optional-token_sound is_rule ts₁ p₂ in
+    let q₁ = optional_token_sound (is k_comment) ts p₁ in
+    let q₂ = optional_token_sound is_rule ts₁ p₂ in
     let q₃ = token_sound 8 k_identifier ts₂ p₃ in
     let q₄ = part_sound ts₃ p₄ in
     let q₅ = token_sound 12 k_equals ts₄ p₅ in
@@ -59,11 +59,11 @@ pub field_complete : (f : FieldTree) (r : List Token) → WfField f → parse_fi
 field_complete f r w =
     let after : is_rule f.name.kind ≡ false = rw w.name in
     rw (
-      optional-token_complete (is k_comment) f.comment _ (passes_is k_comment f.comment w.comment)
+      optional_token_complete (is k_comment) f.comment _ (passes_is k_comment f.comment w.comment)
           (not_comment f.rule f.name _ w.rule w.name),
       parse_field,
     )
-    (rw (optional-token_complete is_rule f.rule _ w.rule after)
+    (rw (optional_token_complete is_rule f.rule _ w.rule after)
     (rw (token_complete 8 k_identifier f.name _ w.name)
     (rw (part_complete f.type f.equals _ w.type w.equals)
     (rw (token_complete 12 k_equals f.equals _ w.equals) (rw (token_complete 13 k_integer f.index r w.index))))))

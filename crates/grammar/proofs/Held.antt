@@ -45,9 +45,9 @@ abbrev pub Held : List Token → Type 0
 Held [] = Unit {0}
 Held (t ∷ ts) = Sane t × Few (t ∷ ts) × Held ts
 
-all-parts : (a b : Bytes) → AllBytes (a ++ b) → AllBytes a × AllBytes b
-all-parts [] b h = (tt, h)
-all-parts (x ∷ a) b h = let i = all-parts a b h.1 in ((h.0, i.0), i.1)
+all_parts : (a b : Bytes) → AllBytes (a ++ b) → AllBytes a × AllBytes b
+all_parts [] b h = (tt, h)
+all_parts (x ∷ a) b h = let i = all_parts a b h.1 in ((h.0, i.0), i.1)
 
 ends_rise : {n last row : ℕ} {ts : List Token} → Fit n last row ts → last ≤ end_of last ts
 ends_rise none = omega arith
@@ -58,8 +58,8 @@ unfolding encode_tokens record_bytes
 held none h k e a = tt
 held (more {n} {last} {row} {t} {ts} s f) h k e a =
     let r = ends_rise f in
-    let b = all-parts (head_bytes (12 + length t.payload) t.kind t.start t.end ++ t.payload) (encode_tokens ts) a in
-    let c = all-parts (head_bytes (12 + length t.payload) t.kind t.start t.end) t.payload b.0 in
+    let b = all_parts (head_bytes (12 + length t.payload) t.kind t.start t.end ++ t.payload) (encode_tokens ts) a in
+    let c = all_parts (head_bytes (12 + length t.payload) t.kind t.start t.end) t.payload b.0 in
     let l = fit_length f in
     let q = fit_squares (more s f) k in (
       record { kind = s.known.1; payload = s.payload; bytes = c.1; start = omega (arith, s.order); end = omega arith },

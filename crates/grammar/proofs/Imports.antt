@@ -15,7 +15,7 @@ use Rattle.grammar.specs.Error.{kind_at}
 use Rattle.grammar.specs.Condition.{import_errors, imports_errors}
 use Rattle.grammar.specs.Reading.{Result, ok, fail, is, consume, optional, Reading, join, parse_alias, parse_import, parse_imports}
 use Rattle.grammar.proofs.Rules.{Read, cons≢nil, both_nil, along, and_then_ok, token_sound}
-use Rattle.grammar.proofs.Rules.{token_complete, optional_sound, optional-none, optional_some}
+use Rattle.grammar.proofs.Rules.{token_complete, optional_sound, optional_none, optional_some}
 use Rattle.grammar.proofs.Eats.{import_eats}
 
 alias_sound : (ts : List Token) {o : Option AliasPart} {r : List Token} → optional (is k_as) parse_alias ts ≡ ok o r
@@ -28,7 +28,7 @@ alias_sound =
 
 alias_complete : (o : Option AliasPart) (r : List Token) → IfAny WfAlias o → is k_as (kind_at r) ≡ false
     → optional (is k_as) parse_alias (optionally y_alias o r) ≡ ok o r
-alias_complete none r w h = optional-none (is k_as) parse_alias r h
+alias_complete none r w h = optional_none (is k_as) parse_alias r h
 alias_complete (some p) r w h =
     optional_some (is k_as) parse_alias p.keyword (p.name ∷ r) p r (eq-eqb p.keyword.kind k_as w.keyword)
     (rw (token_complete 7 k_identifier p.name r w.name))

@@ -173,13 +173,13 @@ module _ {end : ℕ} {P : Error → Type 0} (told : Told end P) where
   one_told true e p = (p, tt)
   one_told false e p = tt
 
-  indices-told : (before ts : List Token) → All Sane ts → All P (index_errors before ts)
-  indices-told before [] h = tt
-  indices-told before (t ∷ ts) h =
+  indices_told : (before ts : List Token) → All Sane ts → All P (index_errors before ts)
+  indices_told before [] h = tt
+  indices_told before (t ∷ ts) h =
       let b = any_of (same_index t) before in
       let e = error_over 16 (span t t) in
       all_append P (pick b (e ∷ []) []) (index_errors (t ∷ before) ts)
-      (one_told b e (told.over 16 t t (omega arith) h.0 h.0)) (indices-told (t ∷ before) ts h.1)
+      (one_told b e (told.over 16 t t (omega arith) h.0 h.0)) (indices_told (t ∷ before) ts h.1)
 
   import_told : (before : List ImportTree) (i : ImportTree) → SaneEnds i → All P (import_errors before i)
   import_told before i (s, l) =
@@ -208,7 +208,7 @@ module _ {end : ℕ} {P : Error → Type 0} (told : Told end P) where
       go false e = rw (e, parse_deleted) (record { errors = tt; rest = h })
       go true e =
           let f = front_sane (is k_integer) ts h.1 in
-          rw (e, parse_deleted) (record { errors = indices-told [] (front (is k_integer) ts) f; rest = skip_sane (is k_integer) ts h.1 })
+          rw (e, parse_deleted) (record { errors = indices_told [] (front (is k_integer) ts) f; rest = skip_sane (is k_integer) ts h.1 })
 
   right_told : (h : HeadTree) (fs : Reading (List FieldTree)) (d : Reading (Option DeletedPart)) {m : Result Token} → Reads fs → Reads d → Fine Sane m
       → Reads (parse_right end h fs d m)

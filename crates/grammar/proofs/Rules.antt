@@ -78,23 +78,23 @@ module _ {A : Type 0} (test : ℕ → Bool) (rule : Token → List Token → Res
           and_then_ok (rule t ts) _ (rw (e, optional) at h) λ x s p q.
           along (Read (optionally y) (IfAny Wf) (t ∷ ts)) q (sound t ts x s e p)
 
-  pub optional-none : (r : List Token) → test (kind_at r) ≡ false → optional test rule r ≡ ok none r
-  optional-none [] h = refl
-  optional-none (t ∷ ts) h = rw (h, optional)
+  pub optional_none : (r : List Token) → test (kind_at r) ≡ false → optional test rule r ≡ ok none r
+  optional_none [] h = refl
+  optional_none (t ∷ ts) h = rw (h, optional)
 
   pub optional_some : (t : Token) (ts : List Token) (x : A) (r : List Token) → Passes test t → rule t ts ≡ ok x r
       → optional test rule (t ∷ ts) ≡ ok (some x) r
   optional_some t ts x r w h = rw (w, optional) (rw h)
 
 -- an optional token
-pub optional-token_sound : (test : ℕ → Bool) (ts : List Token) {o : Option Token} {r : List Token} → optional test ok ts ≡ ok o r
+pub optional_token_sound : (test : ℕ → Bool) (ts : List Token) {o : Option Token} {r : List Token} → optional test ok ts ≡ ok o r
     → Read (optionally ◌∷◌) (IfAny (Passes test)) ts o r
-optional-token_sound test = optional_sound test ok ◌∷◌ (Passes test) λ t ts x r e p. along (Read ◌∷◌ (Passes test) (t ∷ ts)) p (refl, e)
+optional_token_sound test = optional_sound test ok ◌∷◌ (Passes test) λ t ts x r e p. along (Read ◌∷◌ (Passes test) (t ∷ ts)) p (refl, e)
 
-pub optional-token_complete : (test : ℕ → Bool) (o : Option Token) (r : List Token) → IfAny (Passes test) o → test (kind_at r) ≡ false
+pub optional_token_complete : (test : ℕ → Bool) (o : Option Token) (r : List Token) → IfAny (Passes test) o → test (kind_at r) ≡ false
     → optional test ok (optionally ◌∷◌ o r) ≡ ok o r
-optional-token_complete test none r w h = optional-none test ok r h
-optional-token_complete test (some t) r w h = optional_some test ok t r t r w refl
+optional_token_complete test none r w h = optional_none test ok r h
+optional_token_complete test (some t) r w h = optional_some test ok t r t r w refl
 
 -- of one kind
 pub passes_is : (k : ℕ) (o : Option Token) → IfAny (Is k) o → IfAny (Passes (is k)) o

@@ -39,26 +39,26 @@ module _ (f : ℕ → Bool) where
       record { short = omega (arith, i.short); good = rw q.0 i.good }
 
   -- the first part is no longer than the path, and the others than n
-  parts-part : (n : ℕ) (path : Bytes) → Part f n path → Part f (length path) (parts path).first × All (Part f n) (parts path).later
-  parts-part n [] p = (nothing, tt)
-  parts-part n (b ∷ bs) p =
+  parts_part : (n : ℕ) (path : Bytes) → Part f n path → Part f (length path) (parts path).first × All (Part f n) (parts path).later
+  parts_part n [] p = (nothing, tt)
+  parts_part n (b ∷ bs) p =
       let q = (and-eq-true_iff (f b) (all f bs)).0 p.good in
-      go (eqb b 47) refl q.0 (parts-part n bs (record { short = omega (arith, p.short); good = q.1 }))
+      go (eqb b 47) refl q.0 (parts_part n bs (record { short = omega (arith, p.short); good = q.1 }))
     where
       go : (x : Bool) → eqb b 47 ≡ x → f b ≡ true → Part f (length bs) (parts bs).first × All (Part f n) (parts bs).later
           → Part f (suc (length bs)) (parts (b ∷ bs)).first × All (Part f n) (parts (b ∷ bs)).later
       go true e h i = rw (e, parts) (nothing, (record { short = omega (arith, i.0.short, p.short); good = i.0.good }, i.1))
       go false e h i = rw (e, parts) (record { short = omega (arith, i.0.short); good = rw h i.0.good }, i.1)
 
-  kept-part : {n : ℕ} (best : Bytes) (ps : List Bytes) → Part f n best → All (Part f n) ps → Part f n (last_kept best ps)
-  kept-part best [] b a = b
-  kept-part best (p ∷ ps) b a = kept-part (pick (kept p) p best) ps (picked (kept p) a.0 b) a.1
+  kept_part : {n : ℕ} (best : Bytes) (ps : List Bytes) → Part f n best → All (Part f n) ps → Part f n (last_kept best ps)
+  kept_part best [] b a = b
+  kept_part best (p ∷ ps) b a = kept_part (pick (kept p) p best) ps (picked (kept p) a.0 b) a.1
 
   pub stem_part : (n : ℕ) (path : Bytes) → Part f n path → Part f n (stem_of path)
   unfolding stem_of last_part cut
   stem_part n path p =
-      let q = parts-part n path p in
-      let l = kept-part [] ((parts path).first ∷ (parts path).later) nothing (record { short = omega (arith, q.0.short, p.short); good = q.0.good }, q.1) in
+      let q = parts_part n path p in
+      let l = kept_part [] ((parts path).first ∷ (parts path).later) nothing (record { short = omega (arith, q.0.short, p.short); good = q.0.good }, q.1) in
       let last = last_part path in
       picked (is_parent last) nothing (picked (eqb (last_dot 0 0 last) 0) l (taken n (last_dot 0 0 last) last l))
 

@@ -75,8 +75,8 @@ sized_from (suc n) at last row (b ∷ bs) ts e =
     payload_length : (x : Bytes) → 12 ≤ size_of x → size_of x ≤ length x → length (token_of x).payload ≡ size_of x - 12
     payload_length x h k = unfold token_of in length-take-le (size_of x - 12) (drop 12 x) (omega (arith, length-drop 12 x))
 
-pub table-sized : (table : Bytes) (ts : List Token) → decode table ≡ tokens ts → size ts ≡ length table
-table-sized table ts d = sized_from 4096 0 0 0 table ts (decode_small table ts d).1
+pub table_sized : (table : Bytes) (ts : List Token) → decode table ≡ tokens ts → size ts ≡ length table
+table_sized table ts d = sized_from 4096 0 0 0 table ts (decode_small table ts d).1
 
 -- Comments. This holds of any bytes: one byte alone is an empty paragraph, of two bytes.
 paragraphs_length : (n : ℕ) (bs : Bytes) → length (paragraph_bytes (paragraphs_in n bs)) ≤ 2 * length bs
@@ -324,7 +324,7 @@ pub schema_twice : (table : Bytes) (ts : List Token) (s : Schema) → decode tab
 schema_twice table ts s d p =
     let (tree, t, e) = sound ts s p in
     let l = ap size t.tokens in
-    rw e (omega (arith, tree_twice tree, l, table-sized table ts d))
+    rw e (omega (arith, tree_twice tree, l, table_sized table ts d))
 
 -- the same of what a reading without errors gives
 pub read_twice : (table : Bytes) (ts : List Token) → decode table ≡ tokens ts → (parse_schema ts).errors ≡ []

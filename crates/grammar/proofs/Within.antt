@@ -66,12 +66,12 @@ module _ {A : Type 0} {y : A → List Token → List Token} {Wf P : A → Type 0
 abbrev pub SaneWith : (Token → Type 0) → Token → Type 0
 SaneWith Wf t = Wf t × Sane t
 
-pub token-gives : (Wf : Token → Type 0) → Gives ◌∷◌ Wf (SaneWith Wf)
-token-gives Wf = record { of = λ t r w h. ((w, h.0), h.2) }
+pub token_gives : (Wf : Token → Type 0) → Gives ◌∷◌ Wf (SaneWith Wf)
+token_gives Wf = record { of = λ t r w h. ((w, h.0), h.2) }
 
 -- Ranges and comments.
-span-within : {a b : Token} → Sane a → Sane b → RangeWithin (span a b)
-span-within s u = record { start = s.start; end = u.end }
+span_within : {a b : Token} → Sane a → Sane b → RangeWithin (span a b)
+span_within s u = record { start = s.start; end = u.end }
 
 first_sane : (Wf : Token → Type 0) (o : Option Token) {t : Token} → IfAny (SaneWith Wf) o → Sane t → Sane (first_of o t)
 first_sane Wf none w s = s
@@ -83,10 +83,10 @@ comments_within (some c) w = comment_within w.1 w.0
 
 -- Types.
 type_good : (y : TypeTree) (r : List Token) → WfType y → Held (y_type y r) → TypeWithin (type_of y) × Held r
-type_good (array l y c) r (v, w, x) (s, f, h) = let (p, (u, g, k)) = type_good y (c ∷ r) w h in ((span-within s u, p), k)
-type_good (plain t) r w (s, f, h) = ((span-within s s, w), h)
-type_good (single n) r w (s, f, h) = ((span-within s s, tt, identifier_name s w), h)
-type_good (dotted i d n) r (v, w, x) (s, f, (s', f', (s'', f'', h))) = ((span-within s s'', identifier_name s v, identifier_name s'' x), h)
+type_good (array l y c) r (v, w, x) (s, f, h) = let (p, (u, g, k)) = type_good y (c ∷ r) w h in ((span_within s u, p), k)
+type_good (plain t) r w (s, f, h) = ((span_within s s, w), h)
+type_good (single n) r w (s, f, h) = ((span_within s s, tt, identifier_name s w), h)
+type_good (dotted i d n) r (v, w, x) (s, f, (s', f', (s'', f'', h))) = ((span_within s s'', identifier_name s v, identifier_name s'' x), h)
 
 -- each array of a type begins with one of the LeftSquares in a row
 squares : (y : TypeTree) (r : List Token) → WfType y → nesting (type_of y) ≤ squares_of (y_type y r)
@@ -120,15 +120,15 @@ type_within (some p) w s = w
 -- Fields.
 field_good : (f : FieldTree) (r : List Token) → WfField f → Held (y_field f r) → FieldWithin (field_of f) × Held r
 field_good f r w h =
-    let c = (optionally_gives (token-gives (Is k_comment))).of f.comment _ w.comment h in
-    let x = (optionally_gives (token-gives (Passes is_rule))).of f.rule _ w.rule c.1 in
-    let n = (token-gives (Is k_identifier)).of f.name _ w.name x.1 in
+    let c = (optionally_gives (token_gives (Is k_comment))).of f.comment _ w.comment h in
+    let x = (optionally_gives (token_gives (Passes is_rule))).of f.rule _ w.rule c.1 in
+    let n = (token_gives (Is k_identifier)).of f.name _ w.name x.1 in
     let y = (optionally_gives part_gives).of f.type _ w.type n.1 in
-    let e = (token-gives (Is k_equals)).of f.equals _ w.equals y.1 in
-    let i = (token-gives (Is k_integer)).of f.index r w.index e.1 in
+    let e = (token_gives (Is k_equals)).of f.equals _ w.equals y.1 in
+    let i = (token_gives (Is k_integer)).of f.index r w.index e.1 in
     let z = type_within f.type y.0 e.0.1 in (
       record {
-        range = span-within (first_sane (Is k_comment) f.comment c.0 (first_sane (Passes is_rule) f.rule x.0 n.0.1)) i.0.1;
+        range = span_within (first_sane (Is k_comment) f.comment c.0 (first_sane (Passes is_rule) f.rule x.0 n.0.1)) i.0.1;
         comment = comments_within f.comment c.0;
         name = identifier_name n.0.1 n.0.0;
         type = z.0;
@@ -179,17 +179,17 @@ Sound d = WfDeclaration d × DeletedOnce d
 
 declaration_good : (d : DeclarationTree) (r : List Token) → Sound d → Held (y_declaration d r) → DeclarationWithin (declaration_of d) × Held r
 declaration_good d r (w, o) h =
-    let c = (optionally_gives (token-gives (Is k_comment))).of d.head.comment _ w.head.comment h in
-    let k = (token-gives (Passes is_keyword)).of d.head.keyword _ w.head.keyword c.1 in
-    let n = (token-gives (Is k_identifier)).of d.head.name _ w.head.name k.1 in
-    let l = (token-gives (Is k_left_curly)).of d.head.left _ w.head.left n.1 in
+    let c = (optionally_gives (token_gives (Is k_comment))).of d.head.comment _ w.head.comment h in
+    let k = (token_gives (Passes is_keyword)).of d.head.keyword _ w.head.keyword c.1 in
+    let n = (token_gives (Is k_identifier)).of d.head.name _ w.head.name k.1 in
+    let l = (token_gives (Is k_left_curly)).of d.head.left _ w.head.left n.1 in
     let fs = (each_gives field_gives).of d.fields _ w.fields l.1 in
     let x = (optionally_gives deleted_gives).of d.deleted _ w.deleted fs.1 in
-    let z = (token-gives (Is k_right_curly)).of d.right r w.right x.1 in
+    let z = (token_gives (Is k_right_curly)).of d.right r w.right x.1 in
     let ns = deleted_of d.deleted in
     let q = deleted_within d.deleted x.0 in (
       record {
-        range = span-within (first_sane (Is k_comment) d.head.comment c.0 k.0.1) z.0.1;
+        range = span_within (first_sane (Is k_comment) d.head.comment c.0 k.0.1) z.0.1;
         comment = comments_within d.head.comment c.0;
         name = identifier_name n.0.1 n.0.0;
         fields = mapped FieldWithin field_of d.fields fs.0;
@@ -247,7 +247,7 @@ unfolding pick
 import_good i r (w, n) (s, f, (s', f', h)) =
     let a = (optionally_gives alias_gives).of i.alias r w.alias h in
     let p = path_path s' w.path in
-    (record { range = span-within s (last_sane i.path i.alias s' a.0); name = rw n (found_name_lem i p a.0 n); path = p }, a.1)
+    (record { range = span_within s (last_sane i.path i.alias s' a.0); name = rw n (found_name_lem i p a.0 n); path = p }, a.1)
 
 import_gives : Gives y_import Known (λ i. ImportWithin (import_of i))
 import_gives = record { of = import_good }
@@ -260,7 +260,7 @@ opening_comment (some c) r w = w.0
 pub tree_within : (ts : List Token) (tree : SchemaTree) → Derives ts tree → Held ts → Within (schema_of tree)
 tree_within ts tree d h₀ =
     let h : Held (yield tree) = rw d.tokens h₀ in
-    let c = (optionally_gives (token-gives (Is k_comment))).of tree.comment (y_body tree) (opening_comment tree.comment (y_body tree) d.wf.opening) h in
+    let c = (optionally_gives (token_gives (Is k_comment))).of tree.comment (y_body tree) (opening_comment tree.comment (y_body tree) d.wf.opening) h in
     let i = (each_gives import_gives).of tree.imports _ (both WfImport Named tree.imports d.wf.imports d.good.named) c.1 in
     let e = (each_gives declaration_gives).of tree.declarations []
     (both WfDeclaration DeletedOnce tree.declarations d.wf.declarations d.good.once) i.1 in

@@ -84,15 +84,15 @@ module _ {a b : Bytes} {i j : ℕ} (g : Shared a b i j) where
         within = g.within;
       }
 
-  common-none : (xs : List Bytes) → common xs [] ≡ 0
-  common-none [] = refl
-  common-none (x ∷ xs) = refl
+  common_none : (xs : List Bytes) → common xs [] ≡ 0
+  common_none [] = refl
+  common_none (x ∷ xs) = refl
 
   pub first_ends : length a ≤ i → Parted a b i j
   first_ends k = parted (ap (λ (l : List Bytes). common l g.others) (at_end_lem a g.held k))
 
   pub second_ends : length b ≤ j → Parted a b i j
-  second_ends k = parted (ap (common g.names) (at_end_lem b g.held_too k) ∙ common-none g.names)
+  second_ends k = parted (ap (common g.names) (at_end_lem b g.held_too k) ∙ common_none g.names)
 
   module _ (k : i < length a) (l : j < length b) {x y : Bytes} (p : x ≡ name_at a i) (q : y ≡ name_at b j) {s : Bool} (e : s ≡ same_name x y) where
     common_step : s ≡ true → common g.names g.others ≡ suc (common (here a g.held k).rest (here b g.held_too l).rest)

@@ -41,8 +41,8 @@ holds_names (suc n) (more {b = b} {bs = bs} {names = names} s r) h =
     let i = holds_names {bs = after_name (b ∷ bs)} {names = names} n r (omega arith) in (rw (s, are_names) i.0, rw i.1)
 
 -- the name at a place
-pub part-is : (ns : Bytes) (p : ℕ) {n : ℕ} → n ≡ u16_at ns p → take (p + 2 + n - (p + 2)) (drop (p + 2) ns) ≡ name_at ns p
-part-is ns p {n} e = let z : p + 2 + n - (p + 2) ≡ u16_at ns p = omega arith in rw z
+pub part_is : (ns : Bytes) (p : ℕ) {n : ℕ} → n ≡ u16_at ns p → take (p + 2 + n - (p + 2)) (drop (p + 2) ns) ≡ name_at ns p
+part_is ns p {n} e = let z : p + 2 + n - (p + 2) ≡ u16_at ns p = omega arith in rw z
 
 pub record Here (ns : Bytes) (p : ℕ) (names : List Bytes) : Type 0 where
   pub rest : List Bytes

@@ -14,7 +14,7 @@ use Rattle.token.specs.Places.{tok_at, Wf}
 use Rattle.token.proofs.Walk.{next_past}
 use Rattle.grammar.specs.Error.{kind_at}
 use Rattle.grammar.specs.Reading.{Result, ok, fail, is, consume, parse_keyword, name_number, parse_head}
-use Rattle.grammar.proofs.Rules.{optional-token_sound}
+use Rattle.grammar.proofs.Rules.{optional_token_sound}
 use Rattle.parser.specs.Trees.{when}
 use Rattle.parser.specs.Steps.{ahead, Stepped, Reads, TokenPassed, Skipped, HeadRead}
 use Rattle.parser.specs.declared.Cursor.{Cursor}
@@ -37,7 +37,7 @@ module _ {t : Bytes} {c : Cursor} {o : Skip} (s : Skipped t c (is k_comment) o) 
   comment_ends w e =
       let b = (and-eq-true_iff o.there _).0 e in
       let r = rw (b.0, none_left t o.next.at s.read.wf (eqb-true _ 0 b.1)) at s.read.gives in
-      record { gives = rw r (sym (ap (fail 18) (optional-token_sound (is k_comment) (ahead t c) r).0)); wf = w; onward = omega arith }
+      record { gives = rw r (sym (ap (fail 18) (optional_token_sound (is k_comment) (ahead t c) r).0)); wf = w; onward = omega arith }
 
   keyword : {out : List Token → Result Token} {d : Cursor} → Goes t o true → Reads t o.next (consume 1 is_keyword) out d
       → Reads t o.next (parse_keyword (when o.there (tok_at t c.at))) out d

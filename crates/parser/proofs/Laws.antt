@@ -15,7 +15,7 @@ use Rattle.token.specs.Places.{tok_at, next_at, tokens_from, Wf}
 use Rattle.token.proofs.Walk.{tokens_end, tokens_step, wf_good, wf_next, next_past}
 use Rattle.grammar.specs.Error.{kind_at}
 use Rattle.grammar.specs.Reading.{Result, ok, fail, and_then, consume, optional}
-use Rattle.grammar.proofs.Rules.{consume_complete, optional-none}
+use Rattle.grammar.proofs.Rules.{consume_complete, optional_none}
 use Rattle.parser.specs.Steps.{ahead, Stepped, Reads, TokenPassed, Skipped}
 use Rattle.parser.specs.declared.Cursor.{Cursor}
 
@@ -91,7 +91,7 @@ module _ {A B : Type 0} {t : Bytes} {c d : Cursor} {rule : List Token → Result
 -- A part that may be absent, by the test of its first token's kind.
 module _ {A : Type 0} {t : Bytes} {c : Cursor} (test : ℕ → Bool) (rule : Token → List Token → Result A) where
   pub absent : Wf t c.at → test (kind_at (ahead t c)) ≡ false → Reads t c (optional test rule) (ok none) c
-  absent w e = record { gives = optional-none test rule (ahead t c) e; wf = w; onward = omega arith }
+  absent w e = record { gives = optional_none test rule (ahead t c) e; wf = w; onward = omega arith }
 
   module _ {d e : Cursor} (s : Stepped t c d) (k : test (kind_at (ahead t c)) ≡ true) where
     begins : {out : List Token → Result (Option A)} → Reads t d (λ ts. and_then (rule (tok_at t c.at) ts) λ x r. ok (some x) r) out e

@@ -16,7 +16,7 @@ use Rattle.token.specs.Token.{Token}
 use Rattle.token.specs.Kind.{is_plain, k_colon, k_dot, k_identifier, k_left_square, k_right_square}
 use Rattle.token.specs.Payload.{is_payload}
 use Rattle.token.specs.Places.{tok_at, next_at, Wf}
-use Rattle.token.proofs.Walk.{tokens_step, wf_good, wf_inside, next-is, next_past, payload_length}
+use Rattle.token.proofs.Walk.{tokens_step, wf_good, wf_inside, next_is, next_past, payload_length}
 use Rattle.grammar.specs.Error.{kind_at}
 use Rattle.grammar.specs.Tree.{TypeTree}
 use Rattle.grammar.specs.Reading.{Result, ok, fail, is, consume, optional, is_dotted, parse_dotted, parse_single, parse_closing, parse_type, parse_type_part}
@@ -102,7 +102,7 @@ bare_size : {t : Bytes} {at : ℕ} (k : ℕ) → ((p : Bytes) → is_payload k p
 bare_size {t} {at} k bare s e =
     let p = (tok_at t at).payload in
     let z = eqb-true (length p) 0 (sym (bare p) ∙ (rw e at (wf_good s.0 s.1).sound.payload)) in
-    omega (arith, z, payload_length s.0 s.1, (wf_inside s.0 s.1).head, next-is s.0 s.1)
+    omega (arith, z, payload_length s.0 s.1, (wf_inside s.0 s.1).head, next_is s.0 s.1)
 
 left_size : {t : Bytes} {at : ℕ} → Stands t at → (tok_at t at).kind ≡ k_left_square → next_at t at ≡ at + 12
 unfolding is_payload pick

@@ -12,7 +12,7 @@ use Rattle.wire.specs.Pick.{pick}
 use Rattle.token.specs.Token.{Token}
 use Rattle.token.specs.Kind.{k_identifier}
 use Rattle.token.specs.Places.{tok_at, next_at, tokens_from, Wf}
-use Rattle.token.proofs.Walk.{tokens_end, tokens_step, wf_inside, wf_next, next-is, payload_length}
+use Rattle.token.proofs.Walk.{tokens_end, tokens_step, wf_inside, wf_next, next_is, payload_length}
 use Rattle.grammar.specs.Tree.{TypeTree, array, plain, single, dotted, TypePart, FieldTree, HeadTree, ImportTree}
 use Rattle.grammar.specs.Reading.{Result, ok, fail}
 use Rattle.grammar.proofs.Rules.{fail≢ok, cons≢nil}
@@ -56,7 +56,7 @@ filled t (x ∷ xs) at w e = go (ltb at (length t)) refl (filled t xs)
         let s = sym (tokens_step t at h) ∙ e in
         let x' : tok_at t at ≡ x = cc in
         let xs' : tokens_from t (next_at t at) ≡ xs = cc in
-        omega (arith, ap (λ (k : Token). length k.payload) x', payload_length w h, (wf_inside w h).head, next-is w h, ih (next_at t at) (wf_next w h) xs')
+        omega (arith, ap (λ (k : Token). length k.payload) x', payload_length w h, (wf_inside w h).head, next_is w h, ih (next_at t at) (wf_next w h) xs')
 
 place_one : {t : Bytes} {c d : Cursor} → Wf t c.at → Wf t d.at → ahead t c ≡ ahead t d → c ≡ d
 place_one {t} {c} {d} v w e =

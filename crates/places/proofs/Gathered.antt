@@ -12,7 +12,7 @@ use Rattle.wire.specs.Bytes.{Bytes}
 use Rattle.token.specs.Token.{Token}
 use Rattle.token.specs.Kind.{k_integer}
 use Rattle.token.specs.Places.{tok_at, next_at, tokens_from, Wf}
-use Rattle.token.proofs.Walk.{integer_size, next-is, next_past, tokens_step}
+use Rattle.token.proofs.Walk.{integer_size, next_is, next_past, tokens_step}
 use Rattle.grammar.specs.Error.{kind_at}
 use Rattle.grammar.specs.Reading.{is, front, skip}
 use Rattle.parser.specs.Steps.{ahead, Stepped}
@@ -89,7 +89,7 @@ module _ {t : Bytes} {from : Cursor} {items₀ items : List ℕ} {n : ℕ} {c : 
           walk = λ ps m. rw append_assoc (g.walk (c.at ∷ ps) (refl, i, rw p.place at m));
           numbers = rw (add-one, take-suc-set items n (number_at t c.at) (gather_room k), map-append, g.numbers);
           rest = rw (p.first, s.1) at g.rest;
-          place = omega (arith, g.place, p.place, next-is i.0 i.1, integer_size i.0 i.1 i.2);
+          place = omega (arith, g.place, p.place, next_is i.0 i.1, integer_size i.0 i.1 i.2);
           short = omega (arith, g.short, ap length p.first);
           room = omega (arith, g.room, length-set items n (number_at t c.at));
           size = length-set items n (number_at t c.at) ∙ g.size;

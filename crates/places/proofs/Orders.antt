@@ -29,10 +29,10 @@ not_true : {b : Bool} → not b ≡ true → b ≡ false
 not_true {b} h = sym (not-not b) ∙ ap not h
 
 -- elements that stand for others are taken as those are
-taken_map : {A B : Type 0} (f : A → B) (isSame : B → B → Bool) (before xs : List A)
-    → any_taken isSame (map f before) (map f xs) ≡ any_taken (λ x y. isSame (f x) (f y)) before xs
-taken_map f isSame before [] = refl
-taken_map f isSame before (x ∷ xs) = ap₂ ◌||◌ (any_map f (isSame (f x)) before) (taken_map f isSame (x ∷ before) xs)
+taken_map : {A B : Type 0} (f : A → B) (is_same : B → B → Bool) (before xs : List A)
+    → any_taken is_same (map f before) (map f xs) ≡ any_taken (λ x y. is_same (f x) (f y)) before xs
+taken_map f is_same before [] = refl
+taken_map f is_same before (x ∷ xs) = ap₂ ◌||◌ (any_map f (is_same (f x)) before) (taken_map f is_same (x ∷ before) xs)
 
 module _ (t : Bytes) where
   trees_taken : (xs : List ℕ) → any_taken same_import [] (map (tree_at t) xs) ≡ any_next (same_item t Name) (sort_by (item_before t Name) xs)

@@ -19,7 +19,7 @@ use Rattle.wire.specs.Record.{head_bytes, record_bytes}
 use Rattle.wire.proofs.Numbers.{AllBytes, decimal_small, decimal_step}
 use Rattle.token.specs.Token.{Token}
 use Rattle.token.specs.Table.{size_of, token_of, row_after, token_fault, fault_of, Decoded, refused, tokens, add_token, decode_from, decode}
-use Rattle.token.proofs.Records.{good, decode_end, decode_full, decode_bad, decode-next}
+use Rattle.token.proofs.Records.{good, decode_end, decode_full, decode_bad, decode_next}
 use Rattle.token.proofs.Walk.{decode_judged, wf_few}
 use Rattle.schema.specs.Ast.{Schema}
 use Rattle.schema.specs.Encode.{encode_schema}
@@ -148,7 +148,7 @@ refused_from number offset (suc n) at last row (b ∷ bs) e = go (fault_of last 
         let g = good last row x q in
         let next = decode_from n (at + size_of x) (token_of x).end (row_after row (token_of x).kind) (drop (size_of x) x) in
         let step : decode_from (suc n) at last row x ≡ add_token (token_of x) next =
-        rw sub-one at (decode-next at last row (suc n) x (λ z. omega arith) (omega arith) q) in
+        rw sub-one at (decode_next at last row (suc n) x (λ z. omega arith) (omega arith) q) in
         let d : next ≡ refused number offset = added_refused (token_of x) next (sym step ∙ e) in
         let i = ih (at + size_of x) (token_of x).end (row_after row (token_of x).kind) (drop (size_of x) x) d in
         (i.0, omega (arith, i.1, length-drop (size_of x) x, g.fits.tail))
@@ -215,15 +215,15 @@ printed_short t = go (decode t) refl
         rw (read_tokens t 65536 e) (fitted_short 65536 (answer_of (parse ts)) (tokens_short ts (omega (arith, j.count, wf_few j.wf))))
 
 -- reading may stop one byte past the longest table
-decode-past : (t : Bytes) → 65536 < length t → decode t ≡ refused 1 0
+decode_past : (t : Bytes) → 65536 < length t → decode t ≡ refused 1 0
 unfolding decode pick
-decode-past t h = rw (lt-ltb 65536 (length t) h)
+decode_past t h = rw (lt-ltb 65536 (length t) h)
 
-pub printed-past : (t : Bytes) → 65536 < length t → printed (take 65537 t) ≡ printed t
+pub printed_past : (t : Bytes) → 65536 < length t → printed (take 65537 t) ≡ printed t
 unfolding printed
-printed-past t h =
+printed_past t h =
     let l : 65536 < length (take 65537 t) = omega (arith, length-take 65537 t) in
-    rw (read_refused t 65536 (decode-past t h), read_refused (take 65537 t) 65536 (decode-past (take 65537 t) l))
+    rw (read_refused t 65536 (decode_past t h), read_refused (take 65537 t) 65536 (decode_past (take 65537 t) l))
 
 -- so the place past what was printed lies in the buffer
 pub prints_end : {t schema₀ schema₁ text₀ text₁ : Bytes} {r : ℕ} → Prints t schema₀ schema₁ text₀ text₁ r → r ≤ 147456

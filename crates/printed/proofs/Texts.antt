@@ -13,7 +13,7 @@ use borrow.Author.Tests.{leb-true}
 use Rattle.wire.specs.Bytes.{Bytes}
 use Rattle.wire.specs.Pick.{pick}
 use Rattle.wire.specs.Put.{Wrote, over, laid}
-use Rattle.wire.proofs.Laws.{over_fits, adv-is}
+use Rattle.wire.proofs.Laws.{over_fits, adv_is}
 use Rattle.schema.specs.Ast.{Schema}
 use Rattle.schema.specs.Decode.{decode_schema}
 use Rattle.text.specs.Text.{text_of}
@@ -63,7 +63,7 @@ front_text out {o'} {bs} l k e h p =
     sym (drop-append-le (length bs) (take 65536 out) (drop 65536 out) front) ∙ ap (drop (length bs)) (take-append-drop 65536 out) in
     let laid : o' ++ drop 65536 out ≡ bs ++ drop (length bs) out = rw (p, append_assoc, rest) in
     let all : over out 0 bs ≡ bs ++ drop (length bs) out = over_fits bs out 0 (omega arith) k ∙ rw zero-add in
-    record { bytes = laid ∙ sym all; place = omega (arith, adv-is bs 0 (omega arith)) }
+    record { bytes = laid ∙ sym all; place = omega (arith, adv_is bs 0 (omega arith)) }
 
 module _ {t : Bytes} (out : Bytes) {o' : Bytes} {r : Written} (l : 65536 ≤ length out) (w : Writes t (take 65536 out) o' r) where
   lent : length (take 65536 out) ≡ 65536
@@ -113,7 +113,7 @@ prints {t} {text₀ = text₀} p h w =
     let s = printed_short t in
     record {
       schema = p;
-      size = omega (arith, w.place, adv-is (printed t) 0 (omega arith));
+      size = omega (arith, w.place, adv_is (printed t) 0 (omega arith));
       text = w.bytes ∙ over_fits (printed t) text₀ 0 (omega (arith, h.0)) h.1 ∙ rw zero-add;
     }
 

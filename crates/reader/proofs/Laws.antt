@@ -19,7 +19,7 @@ use Rattle.grammar.specs.Reading.{parse_schema, parse, Outcome}
 use Rattle.grammar.specs.Answer.{read_answer, answer_of, bytes_of, fitted}
 use Rattle.grammar.specs.Answer as reading
 use Rattle.wire.specs.Put.{Wrote, over}
-use Rattle.wire.proofs.Laws.{adv-is, over_fits}
+use Rattle.wire.proofs.Laws.{adv_is, over_fits}
 use Rattle.token.specs.Places.{tokens_from}
 use Rattle.token.specs.Checked.{checked}
 use Rattle.token.specs.declared.Checked as token
@@ -38,16 +38,16 @@ turned_away t o d = let a = read_refused t (length o) d in record { answer = rw 
 
 -- where the table decodes to tokens that parse to an outcome
 module _ (t o : Bytes) {ts : List Token} (d : decode t ≡ tokens ts) {out : Outcome} (p : parse ts ≡ out) where
-  fitted-is : read_answer t (length o) ≡ fitted (length o) (answer_of out)
-  fitted-is = read_tokens t (length o) d ∙ rw p
+  fitted_is : read_answer t (length o) ≡ fitted (length o) (answer_of out)
+  fitted_is = read_tokens t (length o) d ∙ rw p
 
   pub too_long : leb (length (bytes_of (answer_of out))) (length o) ≡ false → Answers t o o (Refused 8 0)
   unfolding fitted pick
-  too_long e = let a : read_answer t (length o) ≡ reading.Answer.refusal 8 0 = fitted-is ∙ rw e in record { answer = rw a; buffer = rw a }
+  too_long e = let a : read_answer t (length o) ≡ reading.Answer.refusal 8 0 = fitted_is ∙ rw e in record { answer = rw a; buffer = rw a }
 
   fits : leb (length (bytes_of (answer_of out))) (length o) ≡ true → read_answer t (length o) ≡ answer_of out
   unfolding fitted pick
-  fits e = fitted-is ∙ rw e
+  fits e = fitted_is ∙ rw e
 
 module _ (t o : Bytes) {ts : List Token} (d : decode t ≡ tokens ts) where
   pub schema_written : {o' : Bytes} {r : ℕ} → (parse_schema ts).errors ≡ [] → let bs = encode_schema (schema_of (parse_schema ts).value) in
@@ -93,7 +93,7 @@ errors_fit ts n o h k = omega (arith, errors_length (parse_schema ts).errors, er
 pub landed : (o bs : Bytes) {o' : Bytes} {r : ℕ} → length o < 18446744073709551615 → length bs ≤ length o → Wrote o 0 bs o' r
     → (o' ≡ bs ++ drop (length bs) o) × (r ≡ length bs)
 landed o bs k f w =
-    let a = adv-is bs 0 (omega arith) in
+    let a = adv_is bs 0 (omega arith) in
     (w.bytes ∙ over_fits bs o 0 (omega arith) (omega arith) ∙ rw zero-add, w.place ∙ omega arith)
 
 -- what collecting and emitting ask, of lists that are as long as those that were lent

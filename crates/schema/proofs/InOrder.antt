@@ -135,8 +135,8 @@ schema_next s w = (go s.comment w.comment).are
 fits : {rule : Bytes → Bool} {kind : ℕ} {r : Range} {p : Bytes} → kind < 65536 → RangeWithin r → Right rule p → Narrow (made kind r p)
 fits k r p = record { kind = k; start = r.start; end = r.end; size = p.short }
 
-nowhere-within : RangeWithin nowhere
-nowhere-within = record { start = omega arith; end = omega arith }
+nowhere_within : RangeWithin nowhere
+nowhere_within = record { start = omega arith; end = omega arith }
 
 type_fits : (y : TypeVariant) (rs : List Token) → TypeWithin y → AllFit rs → AllFit (type_records y rs)
 type_fits (TypeVariant.array r inner) rs w f =
@@ -150,7 +150,7 @@ fields_fit (g ∷ fs) rs w f = (fits (omega arith) w.0.range (field_right g w.0)
 
 deleted_fit : (ns : List ℕ) (rs : List Token) → DeletedWithin ns → AllFit rs → AllFit (deleted_records ns rs)
 deleted_fit [] rs w f = f
-deleted_fit (n ∷ ns) rs w f = (fits (omega arith) nowhere-within (deleted_right n ns w), f)
+deleted_fit (n ∷ ns) rs w f = (fits (omega arith) nowhere_within (deleted_right n ns w), f)
 
 declaration_small : (v : DeclarationVariant) → declaration_kind v < 65536
 declaration_small DeclarationVariant.struct = omega arith
@@ -169,7 +169,7 @@ imports_fit (i ∷ is) rs w f = (fits (omega arith) w.0.range (import_right i w.
 
 comment_fits : (ps : List Bytes) (rs : List Token) → CommentWithin ps → AllFit rs → AllFit (comment_records ps rs)
 comment_fits [] rs w f = f
-comment_fits (p ∷ ps) rs w f = (fits (omega arith) nowhere-within (comment_right p ps w), f)
+comment_fits (p ∷ ps) rs w f = (fits (omega arith) nowhere_within (comment_right p ps w), f)
 
 pub schema_fits : (s : Schema) → Within s → AllFit (schema_records s)
 schema_fits s w = comment_fits s.comment _ w.comment (imports_fit s.imports _ w.imports (declarations_fit s.declarations w.declarations))

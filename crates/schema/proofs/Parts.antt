@@ -27,9 +27,9 @@ le_at_small k bs at a h =
 
 -- a name after its length
 module _ (name rest : Bytes) (f : length name < 65536) where
-  pub is-sized : is_sized (sized name ++ rest) ≡ true
+  pub is_sized_lem : is_sized (sized name ++ rest) ≡ true
   unfolding is_sized
-  is-sized =
+  is_sized_lem =
       let l = page_length name rest f in
       rw (page_size name rest f, le-leb 2 (length (sized name ++ rest)) (omega arith), le-leb (2 + length name) (length (sized name ++ rest)) (omega arith))
 
@@ -75,17 +75,17 @@ indices-length (n ∷ ns) = rw (length-append, le_bytes-length) (omega (arith, i
 abbrev pub IsIndex : ℕ → Type 0
 IsIndex n = n < 18446744073709551616
 
-indices-written_in : (ns : List ℕ) → Each IsIndex ns → indices_in (length ns) (indices ns) ≡ ns
-indices-written_in [] e = refl
-indices-written_in (n ∷ ns) e =
-    rw (le_at-le_bytes 8 n [] (indices ns) 0 refl e.0, drop_at (le_bytes 8 n) (indices ns) 8 (le_bytes-length 8 n), indices-written_in ns e.1)
+indices_written_in : (ns : List ℕ) → Each IsIndex ns → indices_in (length ns) (indices ns) ≡ ns
+indices_written_in [] e = refl
+indices_written_in (n ∷ ns) e =
+    rw (le_at-le_bytes 8 n [] (indices ns) 0 refl e.0, drop_at (le_bytes 8 n) (indices ns) 8 (le_bytes-length 8 n), indices_written_in ns e.1)
 
-pub indices-written : (ns : List ℕ) → Each IsIndex ns → indices_of (indices ns) ≡ ns
+pub indices_written : (ns : List ℕ) → Each IsIndex ns → indices_of (indices ns) ≡ ns
 unfolding indices_of
-indices-written ns e =
+indices_written ns e =
     let l = indices-length ns in
     let h : length (indices ns) / 8 ≡ length ns = omega arith in
-    rw h (indices-written_in ns e)
+    rw h (indices_written_in ns e)
 
 pub record IndicesRead (n : ℕ) (p : Bytes) : Type 0 where
   pub count : length (indices_in n p) ≡ n

@@ -23,7 +23,7 @@ use Rattle.schema.specs.Encode.{sized, counted, import_payload, import_part, rul
 use Rattle.schema.specs.Payload.{is_named, name_of, after_name, is_import, is_counted, is_declaration, is_field, is_deleted, is_plain_type, is_custom}
 use Rattle.schema.specs.Decode.{comment_of, optional, rule_of}
 use Rattle.token.proofs.Paragraphs.{page_size, page_first, page_after, page_length, paragraphs_found, paragraphs_small}
-use Rattle.schema.proofs.Parts.{is-sized, indices-written, indices-length}
+use Rattle.schema.proofs.Parts.{is_sized_lem, indices_written, indices-length}
 
 pub record Short (name : Bytes) : Type 0 where
   pub low : 1 ≤ length name
@@ -51,7 +51,7 @@ module _ (name rest : Bytes) (e : is_name name ≡ true) where
 
   pub named : is_named (sized name ++ rest) ≡ true
   unfolding is_named
-  named = rw (is-sized name rest name_fits, page_first name rest name_fits, e)
+  named = rw (is_sized_lem name rest name_fits, page_first name rest name_fits, e)
 
   pub name_is : name_of (sized name ++ rest) ≡ name
   name_is = page_first name rest name_fits
@@ -173,7 +173,7 @@ deleted_right n ns w =
     let l = indices-length (n ∷ ns) in
     let h = w.few in
     record {
-      right = rw (le-leb 1 (length all) (omega arith), eq-eqb (length all % 8) 0 (omega arith), indices-written (n ∷ ns) w.each, w.ascending);
+      right = rw (le-leb 1 (length all) (omega arith), eq-eqb (length all % 8) 0 (omega arith), indices_written (n ∷ ns) w.each, w.ascending);
       short = omega arith;
     }
 
@@ -230,7 +230,7 @@ module _ (import : Option Bytes) (name : Bytes) (i : OptionWithin import) (e : i
       let s = import_short import i in
       let t = name_short name e in
       record {
-        right = rw (is-sized part name import_fits, page_size part name import_fits, page_first part name import_fits, custom_name, go import i, e);
+        right = rw (is_sized_lem part name import_fits, page_size part name import_fits, page_first part name import_fits, custom_name, go import i, e);
         short = omega (arith, page_length part name import_fits);
       }
     where

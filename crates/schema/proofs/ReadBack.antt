@@ -16,7 +16,7 @@ use Rattle.schema.specs.Encode.{nowhere, counted, declaration_kind, declaration_
 use Rattle.schema.specs.Payload.{name_of, after_name}
 use Rattle.schema.specs.Decode.{opening_of, comment_of, import_of, imports_of, type_of, field_of, fields_of}
 use Rattle.schema.specs.Decode.{deleted_of, variant_of, declaration_of, declarations_of, schema_of}
-use Rattle.schema.proofs.Parts.{IsIndex, indices-written}
+use Rattle.schema.proofs.Parts.{IsIndex, indices_written}
 use Rattle.token.proofs.Paragraphs.{paragraphs_found}
 use Rattle.schema.proofs.Payloads.{name_is, after_is, comment_is, body_is, index_is, rule_is, plain_is, import_part_lem, custom_name}
 use Rattle.schema.proofs.Written.{made, comment_records, import_records, type_records, field_records, deleted_records, declaration_records, schema_records}
@@ -95,7 +95,7 @@ fields_end (n ∷ ns) ds = refl
 
 deleted_are : (ns : List ℕ) (ds : List Declaration) → Each IsIndex ns → deleted_of (deleted_records ns (declaration_records ds)) ≡ ns
 deleted_are [] ds w = stop deleted_of (λ r p rs. (refl, refl, refl)) ds
-deleted_are (n ∷ ns) ds w = indices-written (n ∷ ns) w
+deleted_are (n ∷ ns) ds w = indices_written (n ∷ ns) w
 
 declarations_past_deleted : (ns : List ℕ) (rs : List Token) → declarations_of (deleted_records ns rs) ≡ declarations_of rs
 declarations_past_deleted [] rs = refl

@@ -52,8 +52,8 @@ module _ (t : Bytes) (a : AllBytes t) (s : Schema) (e : decode_schema t ≡ some
   parts = schema_parts (records_of t) table.read ((and-eq-true_iff (is_framed t) _).0 (decoded t s e).right).1
 
   -- what a schema table decodes to is within the limits
-  pub decode-within : Within s
-  decode-within = rw (decoded t s e).schema parts.within
+  pub decode_within : Within s
+  decode_within = rw (decoded t s e).schema parts.within
 
   -- and its encoding is the table, with those ranges 0,0
   pub encode_decode : encode_schema s ≡ encode_tokens (map settled (records_of t))
@@ -69,10 +69,10 @@ module _ (t : Bytes) (a : AllBytes t) (s : Schema) (e : decode_schema t ≡ some
 
   -- both orders are strict
   pub imports_ascend : is_chain is_earlier s.imports ≡ true
-  imports_ascend = decode-within.ascending
+  imports_ascend = decode_within.ascending
 
   pub deleted_ascend : Each (λ d. is_chain ltb d.deleted ≡ true) s.declarations
-  deleted_ascend = each s.declarations decode-within.declarations
+  deleted_ascend = each s.declarations decode_within.declarations
     where
       each : (ds : List Declaration) → Each DeclarationWithin ds → Each (λ d. is_chain ltb d.deleted ≡ true) ds
       each [] w = tt

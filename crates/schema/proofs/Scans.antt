@@ -75,6 +75,6 @@ module _ (p : Bytes) (h : 2 ≤ length p) where
     unfolding is_counted
     counted_not n = rw (le-leb 2 (length p) h, are_comment, not-true x n)
 
-    pub counted-all : {count n : ℕ} → not x ≡ false → count ≡ u16_at p 0 → n ≡ length (paragraphs_of rest) → eqb count n ≡ is_counted p
+    pub counted_all : {count n : ℕ} → not x ≡ false → count ≡ u16_at p 0 → n ≡ length (paragraphs_of rest) → eqb count n ≡ is_counted p
     unfolding is_counted
-    counted-all f a b = rw (le-leb 2 (length p) h, are_comment, not-false x f, a, b, part_from p 2)
+    counted_all f a b = rw (le-leb 2 (length p) h, are_comment, not-false x f, a, b, part_from p 2)

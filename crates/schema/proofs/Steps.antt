@@ -46,9 +46,9 @@ pub record NextIs (last : Token) (row : ℕ) (r : Token) (rs : List Token) : Typ
   pub nested : row_after row r.kind ≤ 64
   pub rest : are_next r (row_after row r.kind) rs ≡ true
 
-pub next-is : {last : Token} {row : ℕ} {r : Token} {rs : List Token} → are_next last row (r ∷ rs) ≡ true → NextIs last row r rs
+pub next_is : {last : Token} {row : ℕ} {r : Token} {rs : List Token} → are_next last row (r ∷ rs) ≡ true → NextIs last row r rs
 unfolding is_next is_right
-next-is {last} {row} {r} e =
+next_is {last} {row} {r} e =
     let a = (and-eq-true_iff (is_next last row r) _).0 e in
     let d = (and-eq-true_iff (is_right last.kind row r.kind r.payload) _).0 a.0 in
     let b = (and-eq-true_iff (may_follow last.kind r.kind) _).0 d.0 in
@@ -187,7 +187,7 @@ row_array row k e = rw e
 pub nested : (rs : List Token) (last : Token) (row : ℕ) → After last is_type → row ≤ 64 → are_next last row rs ≡ true → row + nesting (type_of rs) ≤ 64
 nested [] last row a h e = never (sym (a 0) ∙ e)
 nested (r ∷ rs) last row a h e =
-    let n : NextIs last row r rs = next-is e in
+    let n : NextIs last row r rs = next_is e in
     let inner = nested rs r (row + 1) in
     either (eqb r.kind s_array) _ (sym (a r.kind) ∙ n.follow)
     (λ q.

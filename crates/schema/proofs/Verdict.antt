@@ -35,9 +35,9 @@ module _ (t : Bytes) where
   checked_long h = rw (lt-ltb 131072 (length t) h)
 
   module _ {b : Bool} (h : length t ≤ 131072) (e : b ≡ is_schema_table t) where
-    pub checked-table : b ≡ true → Fine ≡ checked t
+    pub checked_table : b ≡ true → Fine ≡ checked t
     unfolding checked decode_schema pick
-    checked-table f = rw (le-ltb 131072 (length t) h, ← e, f)
+    checked_table f = rw (le-ltb 131072 (length t) h, ← e, f)
 
     pub checked_other : b ≡ false → Refused 9 ≡ checked t
     unfolding checked decode_schema pick

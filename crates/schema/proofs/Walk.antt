@@ -18,12 +18,12 @@ use Rattle.schema.specs.Kind.{s_field}
 use Rattle.schema.specs.Limits.{nesting}
 use Rattle.schema.specs.Decode.{type_of}
 use Rattle.schema.proofs.Records.{Whole, records_step, framed_step, framed_whole}
-use Rattle.schema.proofs.Steps.{NextIs, next-is, at_field, nested}
+use Rattle.schema.proofs.Steps.{NextIs, next_is, at_field, nested}
 
 module _ (t : Bytes) (at : ℕ) where
-  pub token-is : token_of (drop at t) ≡ token_at t at
+  pub token_is : token_of (drop at t) ≡ token_at t at
   unfolding token_of le_at
-  token-is =
+  token_is =
       let z : next_at t at - (at + 12) ≡ u16_at t at - 12 = omega arith in
       rw (z, drop-drop 2 at t, drop-drop 4 at t, drop-drop 8 at t, drop-drop 12 at t)
 
@@ -46,7 +46,7 @@ module _ (t : Bytes) (at : ℕ) where
   -- a whole record is the first of those from its place on, and the others come after it
   pub records_at : WholeAt t at → records_from t at ≡ token_at t at ∷ records_from t (next_at t at)
   unfolding le_at
-  records_at w = records_step (drop at t) (at_whole w) ∙ rw (token-is, drop-drop (u16_at t at) at t)
+  records_at w = records_step (drop at t) (at_whole w) ∙ rw (token_is, drop-drop (u16_at t at) at t)
 
   pub framed_at : WholeAt t at → is_framed (drop at t) ≡ is_framed (drop (next_at t at) t)
   unfolding le_at
@@ -110,6 +110,6 @@ pub type_nested : {t : Bytes} {at : ℕ} {may : ℕ → Bool} → Stands t at ma
     → nesting (type_of (records_from t (next_at t at))) ≤ 64
 type_nested {t} {at} s h e =
     let r = record_at s h in
-    let n : NextIs s.before s.row (token_at t at) (records_from t (next_at t at)) = next-is (rw r.records at s.right) in
+    let n : NextIs s.before s.row (token_at t at) (records_from t (next_at t at)) = next_is (rw r.records at s.right) in
     let f = at_field (records_from t (next_at t at)) (token_at t at) e r.right in
     rw zero-add at (nested (records_from t (next_at t at)) (token_at t at) 0 f.after (omega arith) (rw (row_field s.row (kind_at t at) e) at n.rest))

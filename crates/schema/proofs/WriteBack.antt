@@ -24,7 +24,7 @@ use Rattle.schema.specs.Payload.{name_of, indices_of, is_type_payload, is_payloa
 use Rattle.schema.specs.Table.{may_follow, is_outside, is_importing, is_inside, is_type, is_later, row_after, are_next, outset}
 use Rattle.schema.specs.Decode.{range_of, opening_of, import_of, imports_of, type_of, fields_of, deleted_of, declarations_of, schema_of, settled}
 use Rattle.token.proofs.Encode.{Narrow}
-use Rattle.schema.proofs.Steps.{After, at_declaration, at_kind, never, either, NextIs, next-is}
+use Rattle.schema.proofs.Steps.{After, at_declaration, at_kind, never, either, NextIs, next_is}
 use Rattle.schema.proofs.PayloadsRead.{Some, import_read, declaration_read, field_read, deleted_read, comment_read, plain_read, custom_read}
 use Rattle.schema.proofs.Written.{made, comment_records, import_records, type_records, field_records, deleted_records, declaration_records, schema_records}
 
@@ -232,10 +232,10 @@ module _ (rs : List Token) (h : Parts rs) (last : Token) (row : ℕ) where
 
 parts_step : (r : Token) (rs : List Token) → Read r → Parts rs → Parts (r ∷ rs)
 parts_step r rs read h = record {
-  outside = λ last row f e. let n = next-is e in outside_gives rs h last row r (sym (f r.kind) ∙ n.follow) read n;
-  inside = λ last row f e. let n = next-is e in inside_gives rs h last row r (sym (f r.kind) ∙ n.follow) read n;
-  typed = λ last row f l e. let n = next-is e in typed_gives rs h last row l r (sym (f r.kind) ∙ n.follow) read n;
-  imports = λ last row f e. let n = next-is e in imports_gives rs h last row r (sym (f r.kind) ∙ n.follow) read n;
+  outside = λ last row f e. let n = next_is e in outside_gives rs h last row r (sym (f r.kind) ∙ n.follow) read n;
+  inside = λ last row f e. let n = next_is e in inside_gives rs h last row r (sym (f r.kind) ∙ n.follow) read n;
+  typed = λ last row f l e. let n = next_is e in typed_gives rs h last row l r (sym (f r.kind) ∙ n.follow) read n;
+  imports = λ last row f e. let n = next_is e in imports_gives rs h last row r (sym (f r.kind) ∙ n.follow) read n;
 }
 
 parts : (rs : List Token) → Each Read rs → Parts rs
@@ -279,4 +279,4 @@ schema_step r rs h read n = go (eqb r.kind s_comment) refl
 pub schema_parts : (rs : List Token) → Each Read rs → are_next outset 0 rs ≡ true → SchemaParts rs
 schema_parts [] reads e =
     record { back = refl; within = record { comment = no_comment; imports = tt; ascending = refl; declarations = tt } }
-schema_parts (r ∷ rs) reads e = schema_step r rs (parts rs reads.1) reads.0 (next-is e)
+schema_parts (r ∷ rs) reads e = schema_step r rs (parts rs reads.1) reads.0 (next_is e)

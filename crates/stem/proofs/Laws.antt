@@ -34,9 +34,9 @@ drop_taken : (f m : ℕ) (l : Bytes) → f ≤ length l → drop f (take (f + m)
 drop_taken f m l h = rw (take-add f m l, drop_at (take f l) (take m (drop f l)) f (length-take-le f l h))
 
 -- a part of a part
-pub part-within : {bs these : Bytes} {a e : ℕ} {r : Part} → a ≤ e → e ≤ length bs → IsPart (part a e bs) these r
+pub part_within : {bs these : Bytes} {a e : ℕ} {r : Part} → a ≤ e → e ≤ length bs → IsPart (part a e bs) these r
     → IsPart bs these (record { from = a + r.from; to = a + r.to })
-part-within {bs} {these} {a} {e} {r} o h w =
+part_within {bs} {these} {a} {e} {r} o h w =
     let l = part_length a e bs h in
     let i : r.to ≤ e - a = omega (arith, w.inside) in
     let n : e - a ≡ r.from + (e - a - r.from) = omega (arith, w.order) in

@@ -29,7 +29,7 @@ use Rattle.schema.specs.Table.{records_of, is_framed, is_schema_table}
 use Rattle.schema.specs.Decode.{settled, decode_schema}
 use Rattle.schema.proofs.RecordsBack.{records_back}
 use Rattle.schema.proofs.Verdict.{decoded}
-use Rattle.schema.proofs.RoundTrip.{decode-within, encode_decode}
+use Rattle.schema.proofs.RoundTrip.{decode_within, encode_decode}
 use Rattle.schema.proofs.Parts.{indices-length}
 use Rattle.text.specs.Wrap.{words_of, lines_from, wrap}
 use Rattle.text.specs.Text.{is_empty, four, blank, line_text, paragraph_text, mark, paragraphs_text, import_text, imports_text}
@@ -297,7 +297,7 @@ table_short t a s e =
     let f = ((and-eq-true_iff (is_framed t) _).0 (decoded t s e).right).0 in
     omega (
       arith,
-      text_short s (decode-within t a s e),
+      text_short s (decode_within t a s e),
       ap length (encode_decode t a s e),
       settled-length (records_of t),
       ap length (records_back t a f).back,

@@ -133,9 +133,9 @@ takes_line width l rest (inl h) =
 takes_line width l rest (inr e) = rw (word_first l e, e)
 
 -- the lines joined by spaces are the paragraph
-pub wrap-joined : (width : ℕ) (p : Bytes) → joined (wrap width p) ≡ p
+pub wrap_joined : (width : ℕ) (p : Bytes) → joined (wrap width p) ≡ p
 unfolding wrap
-wrap-joined width p =
+wrap_joined width p =
     ap (drop 1)
     (lines_keep width (λ line words ls. spaced ls ≡ 32 ∷ line ++ spaced words) (λ line. refl)
     (λ line word words ls h e. e ∙ simp append_assoc)

@@ -114,8 +114,8 @@ index_text n = bytes " " ++ decimal n
 
 -- nothing where no index is deleted; a blank line parts it from the fields, where there are any
 unfoldable pub deleted_text : Bool → List ℕ → Bytes
-deleted_text afterFields indices =
-    pick (is_empty indices) [] (blank afterFields ++ bytes "    deleted" ++ flat_map index_text indices ++ newline)
+deleted_text after_fields indices =
+    pick (is_empty indices) [] (blank after_fields ++ bytes "    deleted" ++ flat_map index_text indices ++ newline)
 
 abbrev pub variant_text : DeclarationVariant → Bytes
 variant_text struct = bytes "struct "

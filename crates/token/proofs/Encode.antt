@@ -22,7 +22,7 @@ use Rattle.token.specs.Payload.{is_identifier, is_path, is_integer, is_comment, 
 use Rattle.token.specs.Table.{size_of, token_of, is_whole, token_fault, fault_of, tokens, decode_from, decode, encode_tokens}
 use Rattle.token.specs.Fit.{Sound, Fit, Holds}
 use Rattle.token.specs.Fit.Fit.{none, more}
-use Rattle.token.proofs.Records.{Fits, bounds, whole_is, decode_end, decode-next}
+use Rattle.token.proofs.Records.{Fits, bounds, whole_is, decode_end, decode_next}
 use Rattle.token.proofs.Paragraphs.{all_take, all_drop, le_again, paragraphs_small}
 use Rattle.token.proofs.Walk.{opened, fit, decode_small}
 
@@ -194,7 +194,7 @@ decode_encoded (more {n} {last} {row} {t} {ts} s f) at e =
     let k = first_token t (encode_tokens ts) w in
     let l = first_length t (encode_tokens ts) w in
     let z = faultless last row x (first_whole t (encode_tokens ts) w) (rw k s) in
-    decode-next at last row (suc n) x (λ z. omega arith) (omega arith) z
+    decode_next at last row (suc n) x (λ z. omega arith) (omega arith) z
     ∙ rw (k, first_rest t (encode_tokens ts) w, sub-one, decode_encoded f (at + size_of x) e)
 
 -- ---- the theorem

@@ -181,8 +181,8 @@ unfolding is_comment paragraphs_of
 counting p e = record { few = omega arith; whole = ((and-eq-true_iff (leb 1 (length p)) (are_paragraphs 32 p)).0 e).1; left = zero-add _ }
 
 module _ {p : Bytes} {count at : ℕ} (s : Counting p count at) where
-  pub counted-all : length p ≤ at → count ≡ length (paragraphs_of p)
-  counted-all h = rw (drop_of_length-le p h, in_none (32 - count), add-zero) at s.left
+  pub counted_all : length p ≤ at → count ≡ length (paragraphs_of p)
+  counted_all h = rw (drop_of_length-le p h, in_none (32 - count), add-zero) at s.left
 
   module _ (h : at < length p) where
     counted_page : Page (32 - count) (drop at p)

@@ -55,13 +55,13 @@ module _ (at last row : ℕ) where
   decode_bad (suc n) (b ∷ bs) m h zero e k = absurd (k refl)
   decode_bad (suc n) (b ∷ bs) m h (suc f) e k = rw (← e, decode_from)
 
-  pub decode-next : (n : ℕ) (bs : Bytes) → (n ≡ 0 → ⊥) → 0 < length bs → fault_of last row bs ≡ 0
+  pub decode_next : (n : ℕ) (bs : Bytes) → (n ≡ 0 → ⊥) → 0 < length bs → fault_of last row bs ≡ 0
       → decode_from n at last row bs ≡ add_token (token_of bs) (decode_from (n - 1) (at + size_of bs) (token_of bs).end (row_after row (token_of bs).kind)
       (drop (size_of bs) bs))
   unfolding decode_from
-  decode-next zero bs m h e = absurd (m refl)
-  decode-next (suc n) [] m h e = absurd (omega arith)
-  decode-next (suc n) (b ∷ bs) m h e = rw (e, decode_from, sub-one)
+  decode_next zero bs m h e = absurd (m refl)
+  decode_next (suc n) [] m h e = absurd (omega arith)
+  decode_next (suc n) (b ∷ bs) m h e = rw (e, decode_from, sub-one)
 
 -- no number: no test was met
 pick-zero : (b : Bool) (k y : ℕ) → pick b (suc k) y ≡ 0 → (b ≡ false) × (y ≡ 0)
@@ -152,8 +152,8 @@ module _ {t : Bytes} {at count last row : ℕ} {r : Checked} (s : Checking t at 
       pub checked_good : f ≡ 0 → Good last row (drop at t)
       checked_good z = good last row (drop at t) (sym e ∙ z)
 
-      pub checked-next : f ≡ 0 → Checking t (at + size_of (drop at t)) (count + 1) (token_of (drop at t)).end (row_after row (token_of (drop at t)).kind) r
-      checked-next z =
+      pub checked_next : f ≡ 0 → Checking t (at + size_of (drop at t)) (count + 1) (token_of (drop at t)).end (row_after row (token_of (drop at t)).kind) r
+      checked_next z =
           let g = checked_good z in
           let l : size_of (drop at t) ≤ length t - at = rw (← length-drop at t) g.fits.tail in
           let n : 4096 - (count + 1) ≡ 4096 - count - 1 = omega arith in
@@ -161,6 +161,6 @@ module _ {t : Bytes} {at count last row : ℕ} {r : Checked} (s : Checking t at 
             inside = omega arith;
             few = omega (arith, s.few, m);
             shallow = g.sound.shallow;
-            left = rw n (rw (decode-next at last row (4096 - count) (drop at t) left_some rest_some (sym e ∙ z), drop-drop (size_of (drop at t)) at t, onto_add)
+            left = rw n (rw (decode_next at last row (4096 - count) (drop at t) left_some rest_some (sym e ∙ z), drop-drop (size_of (drop at t)) at t, onto_add)
                 at s.left);
           }

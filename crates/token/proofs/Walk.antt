@@ -21,7 +21,7 @@ use Rattle.token.specs.Fit.Fit.{none, more}
 use Rattle.token.specs.Checked.{answer_of, checked}
 use Rattle.token.specs.Places.{tok_at, next_at, tokens_in, tokens_from, Wf}
 use Rattle.token.specs.declared.Checked.TheVariants.{Refused, Fine}
-use Rattle.token.proofs.Records.{Fits, Good, good, decode_end, decode_full, decode_bad, decode-next}
+use Rattle.token.proofs.Records.{Fits, Good, good, decode_end, decode_full, decode_bad, decode_next}
 
 -- a number in a record, read from the table
 pub field : (k : ℕ) (t : Bytes) (at j : ℕ) → le_at k (drop at t) j ≡ le_at k t (at + j)
@@ -86,7 +86,7 @@ opened (suc n) at last row bs ts h e = go (fault_of last row bs) refl
         let z : ◌≡◌ {A = ℕ} 0 1 = cc in
         absurd (omega arith)
     go zero q =
-        let a = added _ _ ts (sym (decode-next at last row (suc n) bs (λ z. omega arith) h q) ∙ e) in
+        let a = added _ _ ts (sym (decode_next at last row (suc n) bs (λ z. omega arith) h q) ∙ e) in
         record { more = omega arith; good = good last row bs q; rest = a.0; whole = a.1; next = a.2 }
 
 -- a good record's length is its step
@@ -169,14 +169,14 @@ module _ {t : Bytes} {at : ℕ} (w : Wf t at) (h : at < length t) where
       let k : size_of (drop at t) ≤ length t - at = rw (← length-drop at t) g.tail in
       record { head = g.head; tail = omega arith }
 
-  pub next-is : next_at t at ≡ at + size_of (drop at t)
+  pub next_is : next_at t at ≡ at + size_of (drop at t)
   unfolding next_at
-  next-is = ap (at +◌) (step_is wf_good.fits)
+  next_is = ap (at +◌) (step_is wf_good.fits)
 
   pub wf_next : Wf t (next_at t at)
   wf_next =
       let i = wf_inside in
-      let e = next-is in
+      let e = next_is in
       let r : first_of.rest ≡ tokens_from t (next_at t at) = cc (first_of.whole, tokens_step t at h) in
       record {
         small = w.small;

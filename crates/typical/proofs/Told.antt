@@ -13,8 +13,8 @@ use Rattle.reader.proofs.Laws.{nothing_read}
 use Rattle.writer.specs.Written.{Writes}
 use Rattle.typical.specs.Returned.{Returns, Formats, read_status, read_value, write_status, write_value}
 
-pub case-told : {A : Type 0} {Promise : A → Type 0} {status value : A → ℕ} {a b : A} → Promise a → a ≡ b → Returns Promise status value (value b) (status b)
-case-told {status = status} {value = value} {a = a} p e = record { answer = a; promised = p; status_is = ap status (sym e); value_is = ap value (sym e) }
+pub case_told : {A : Type 0} {Promise : A → Type 0} {status value : A → ℕ} {a b : A} → Promise a → a ≡ b → Returns Promise status value (value b) (status b)
+case_told {status = status} {value = value} {a = a} p e = record { answer = a; promised = p; status_is = ap status (sym e); value_is = ap value (sym e) }
 
 pub nothing_told : {t : Bytes} (o : Bytes) → length t ≡ 0 → Returns (Answers t o o) read_status read_value 0 0
 nothing_told o z = record { answer = Schema 0; promised = nothing_read o z; status_is = refl; value_is = refl }

@@ -68,10 +68,10 @@ pub wrote_length : {o : Bytes} {at : ℕ} {bs o' : Bytes} {r : ℕ} → Wrote o 
 wrote_length {o} {at} {bs} w = ap length w.bytes ∙ over-length bs o at
 
 -- from the end on nothing is written
-pub over-past : (bs o : Bytes) (at : ℕ) → length o ≤ at → length o ≤ 18446744073709551615 → over o at bs ≡ o
+pub over_past : (bs o : Bytes) (at : ℕ) → length o ≤ at → length o ≤ 18446744073709551615 → over o at bs ≡ o
 unfolding over
-over-past [] o at h k = refl
-over-past (b ∷ bs) o at h k = rw (set_out o at b) (over-past bs o (next at) (omega arith) k)
+over_past [] o at h k = refl
+over_past (b ∷ bs) o at h k = rw (set_out o at b) (over_past bs o (next at) (omega arith) k)
 
 pub over_empty : (bs : Bytes) (at : ℕ) → over [] at bs ≡ []
 unfolding over
@@ -79,10 +79,10 @@ over_empty [] at = refl
 over_empty (b ∷ bs) at = over_empty bs (next at)
 
 -- the place stops at the largest usize
-pub adv-is : (bs : Bytes) (at : ℕ) → at ≤ 18446744073709551615 → adv at bs ≡ min (at + length bs) 18446744073709551615
+pub adv_is : (bs : Bytes) (at : ℕ) → at ≤ 18446744073709551615 → adv at bs ≡ min (at + length bs) 18446744073709551615
 unfolding adv
-adv-is [] at h = omega arith
-adv-is (b ∷ bs) at h = adv-is bs (next at) (omega arith) ∙ omega arith
+adv_is [] at h = omega arith
+adv_is (b ∷ bs) at h = adv_is bs (next at) (omega arith) ∙ omega arith
 
 over_sets : (bs o : Bytes) (at : ℕ) → at + length bs ≤ length o → length o ≤ 18446744073709551615 → over o at bs ≡ sets o at bs
 unfolding over
@@ -100,14 +100,14 @@ over_fits bs o at h k = over_sets bs o at h k ∙ sets-eq bs o at h
 -- bytes from `at` on was lent and came back as x.
 module _ (o : Bytes) (at : ℕ) (bs : Bytes) (small : length o ≤ 18446744073709551615) (here : at ≤ 18446744073709551615) where
   pub wrote_past : {r : ℕ} → length o ≤ at → r ≡ min (at + length bs) 18446744073709551615 → Wrote o at bs o r
-  wrote_past h p = record { bytes = sym (over-past bs o at h small); place = p ∙ sym (adv-is bs at here) }
+  wrote_past h p = record { bytes = sym (over_past bs o at h small); place = p ∙ sym (adv_is bs at here) }
 
   pub wrote_whole : (end : ℕ) {x : Bytes} → end ≤ length o → end ≡ at + length bs → x ≡ bs → Wrote o at bs (put_mid at (end - at) o x) end
   wrote_whole end {x} h q p =
       let l : end - at ≡ length bs = omega arith in
       let lent : put_mid at (end - at) o bs ≡ over o at bs =
       ap (λ (k : ℕ). put_mid at k o bs) l ∙ rw (drop-drop, ← append_assoc) (sym (over_fits bs o at (omega arith) small)) in
-      record { bytes = rw p lent; place = omega (arith, adv-is bs at here) }
+      record { bytes = rw p lent; place = omega (arith, adv_is bs at here) }
 
   pub wrote_clipped : {r : ℕ} {x : Bytes} → at ≤ length o → length o - at ≤ length bs → x ≡ take (length o - at) bs
       → r ≡ min (at + length bs) 18446744073709551615
@@ -117,13 +117,13 @@ module _ (o : Bytes) (at : ℕ) (bs : Bytes) (small : length o ≤ 1844674407370
       let front = take room bs in
       let l : room ≡ length front = omega (arith, length-take room bs) in
       let past : over (over o at front) (adv at front) (drop room bs) ≡ over o at front =
-      over-past (drop room bs) (over o at front) (adv at front) (omega (arith, over-length front o at, adv-is front at here))
+      over_past (drop room bs) (over o at front) (adv at front) (omega (arith, over-length front o at, adv_is front at here))
       (omega (arith, over-length front o at)) in
       let all : over (over o at front) (adv at front) (drop room bs) ≡ over o at bs =
       over-append front (drop room bs) o at ∙ ap (over o at) (take-append-drop room bs) in
       let lent : put_mid at room o front ≡ over o at front =
       ap (λ (k : ℕ). put_mid at k o front) l ∙ rw (drop-drop, ← append_assoc) (sym (over_fits front o at (omega arith) small)) in
-      record { bytes = rw p (lent ∙ sym past ∙ all); place = q ∙ sym (adv-is bs at here) }
+      record { bytes = rw p (lent ∙ sym past ∙ all); place = q ∙ sym (adv_is bs at here) }
 
 -- What a public function learns that first writes into the empty part of its buffer o, which leaves e there: nothing changed, and whether the
 -- bytes fit. Its tests are of the buffer as it is then, e ++ o.
@@ -132,7 +132,7 @@ nothing o {bs} m = rw (m.bytes, over_empty bs 0)
 
 module _ (o : Bytes) {bs e : Bytes} {need : ℕ} (m : Wrote [] 0 bs e need) (k : length o < 18446744073709551616 - 1) where
   need_is : need ≡ min (length bs) 18446744073709551615
-  need_is = m.place ∙ adv-is bs 0 (omega arith) ∙ rw zero-add
+  need_is = m.place ∙ adv_is bs 0 (omega arith) ∙ rw zero-add
 
   same_size : length (e ++ o) ≡ length o
   same_size = ap length (nothing o m)
@@ -149,6 +149,6 @@ module _ (o : Bytes) {bs e : Bytes} {need : ℕ} (m : Wrote [] 0 bs e need) (k :
   pub written : {o' : Bytes} {r : ℕ} → need ≤ length (e ++ o) → Wrote (e ++ o) 0 bs o' r → (o' ≡ bs ++ drop (length bs) o) × (r ≡ length bs)
   written h w =
       let f : length bs ≤ length o = fits_le h in
-      let a : adv 0 bs ≡ min (0 + length bs) 18446744073709551615 = adv-is bs 0 (omega arith) in
+      let a : adv 0 bs ≡ min (0 + length bs) 18446744073709551615 = adv_is bs 0 (omega arith) in
       let b = rw (nothing o m) at w.bytes in
       (b ∙ over_fits bs o 0 (omega arith) (omega arith) ∙ rw zero-add, w.place ∙ omega arith)

@@ -42,9 +42,9 @@ abbrev pub AllBytes : Bytes → Type 0
 AllBytes [] = Unit {0}
 AllBytes (b ∷ bs) = (b < 256) × AllBytes bs
 
-pub all-bytes : (bs : Bytes) → ((i : ℕ) → get_or bs i 0 < 256) → AllBytes bs
-all-bytes [] h = tt
-all-bytes (b ∷ bs) h = (h 0, all-bytes bs λ i. h (suc i))
+pub all_bytes : (bs : Bytes) → ((i : ℕ) → get_or bs i 0 < 256) → AllBytes bs
+all_bytes [] h = tt
+all_bytes (b ∷ bs) h = (h 0, all_bytes bs λ i. h (suc i))
 
 -- and bytes come back from their number
 pub le_bytes-le_number : (bs : Bytes) → AllBytes bs → le_bytes (length bs) (le_number bs) ≡ bs
@@ -61,9 +61,9 @@ unfolding le_at
 le_at-le_bytes k n a b at h f =
     rw (drop_at a (le_bytes k n ++ b) at h, take_at (le_bytes k n) b k (le_bytes-length k n)) (le_number-le_bytes k n f)
 
-le_at-none : (s : Bytes) (at : ℕ) → le_at 0 s at ≡ 0
+le_at_none : (s : Bytes) (at : ℕ) → le_at 0 s at ≡ 0
 unfolding le_at le_number
-le_at-none s at = refl
+le_at_none s at = refl
 
 le_at_step : (k : ℕ) (s : Bytes) (at : ℕ) → at < length s → le_at (suc k) s at ≡ get_or s at 0 + 256 * le_at k s (at + 1)
 unfolding le_at le_number
@@ -72,7 +72,7 @@ le_at_step k s at h = rw (drop-cons s at 0 h, add-one)
 -- a number of two bytes by its bytes, and the wider ones by their halves
 pub u16_bytes : (s : Bytes) (at : ℕ) → at + 2 ≤ length s → get_or s at 0 + 256 * get_or s (at + 1) 0 ≡ le_at 2 s at
 u16_bytes s at h =
-    omega (arith, le_at_step 1 s at (omega arith), le_at_step 0 s (at + 1) (omega arith), le_at-none s (at + 1 + 1))
+    omega (arith, le_at_step 1 s at (omega arith), le_at_step 0 s (at + 1) (omega arith), le_at_none s (at + 1 + 1))
 
 le_number-append : (a b : Bytes) → le_number (a ++ b) ≡ le_number a + 256 ^ length a * le_number b
 unfolding le_number
@@ -111,8 +111,8 @@ pub record Digits (d : Bytes) (i m n : ℕ) : Type 0 where
   pub small : m < 10 ^ (i + 1)
   pub text : decimal m ++ drop (i + 1) d ≡ decimal n
 
-pub digits-none : (n : ℕ) → n < 2 ^ 64 → Digits (replicate 20 0) 19 n n
-digits-none n h = record { size = refl; inside = omega arith; small = omega arith; text = append-nil (decimal n) }
+pub digits_none : (n : ℕ) → n < 2 ^ 64 → Digits (replicate 20 0) 19 n n
+digits_none n h = record { size = refl; inside = omega arith; small = omega arith; text = append-nil (decimal n) }
 
 -- what stands from i on where v was laid at i
 laid_at : (d : Bytes) (i v : ℕ) → i < length d → drop i (set d i v) ≡ v ∷ drop (i + 1) d

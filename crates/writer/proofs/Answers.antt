@@ -12,7 +12,7 @@ use lib.ListN.{length}
 use Rattle.wire.specs.Bytes.{Bytes}
 use Rattle.wire.specs.Pick.{pick}
 use Rattle.wire.specs.Put.{Wrote, laid}
-use Rattle.wire.proofs.Laws.{then, adv-is, over_fits, nothing, too_long, fits, written}
+use Rattle.wire.proofs.Laws.{then, adv_is, over_fits, nothing, too_long, fits, written}
 use Rattle.wire.proofs.Numbers.{AllBytes}
 use Rattle.schema.specs.Ast.{Schema}
 use Rattle.schema.specs.Table.{is_framed, records_of, may_follow, is_schema_table}
@@ -84,7 +84,7 @@ surely_fits t o p a k h w =
     let f = fine t p in
     let text = text_of (schema_of (records_of t)) in
     let s : length text ≤ length o = omega (arith, table_short t a _ f.decodes) in
-    let v = w.place ∙ adv-is text 0 (omega arith) in
+    let v = w.place ∙ adv_is text 0 (omega arith) in
     let n : min (0 + length text) 18446744073709551615 ≡ length text = omega arith in
     record {
       answer = rw (le-ltb 131072 (length t) f.small, f.decodes, le-leb (length text) (length o) s, v, n);

@@ -1,6 +1,6 @@
 -- `emit::put_indices` meets its contract: the numbers are sorted and written after their record's head.
 use Rattle.wire.proofs.Laws.{wrote_none}
-use Rattle.emit.proofs.Indices.{all_items, no_indices, indices-written}
+use Rattle.emit.proofs.Indices.{all_items, no_indices, indices_written}
 use Rattle.emit.proofs.put_indices.Goals as goal
 
 pub returns-then-n-eq0 : goal.returns-then-n-eq0
@@ -21,4 +21,4 @@ returns c =
     let sort = c.sort in
     let if1 = c.if-n-eq0 in
     let args = c.args in
-    indices-written args.t.now args.items.now if1.false sort.ensures.sorted put-head.ensures put-numbers.ensures
+    indices_written args.t.now args.items.now if1.false sort.ensures.sorted put-head.ensures put-numbers.ensures

@@ -1,5 +1,5 @@
 use native.Mathlib.Omega.{arith}
-use Rattle.wire.proofs.Numbers.{all-bytes}
+use Rattle.wire.proofs.Numbers.{all_bytes}
 use Rattle.records.proofs.Laws.{comment_there, comment_absent}
 use Rattle.records.proofs.comment_at.Goals as goal
 
@@ -12,7 +12,7 @@ returns-then-there c =
     let pre = c.requires in
     let args = c.args in
     let here = rw if1.true at pre in
-    rw (if1.true, c.payload_at.ensures) (comment_there here.0 here.1 (all-bytes args.t.now λ i. omega (arith, c.type_inv.t i)))
+    rw (if1.true, c.payload_at.ensures) (comment_there here.0 here.1 (all_bytes args.t.now λ i. omega (arith, c.type_inv.t i)))
 
 pub returns : goal.returns
 returns c = rw c.if-there.false comment_absent

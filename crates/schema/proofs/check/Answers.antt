@@ -1,4 +1,4 @@
-use Rattle.schema.proofs.Verdict.{checked_long, checked-table, checked_other}
+use Rattle.schema.proofs.Verdict.{checked_long, checked_table, checked_other}
 use Rattle.schema.proofs.check.Goals as goal
 
 pub returns-then-t-gt131072 : goal.returns-then-t-gt131072
@@ -15,7 +15,7 @@ pub returns-then-is_table : goal.returns-then-is_table
 returns-then-is_table c =
     let is-table = c.is_table in
     let if1 = c.if-t-gt131072 in
-    checked-table _ if1.false is-table.ensures c.if-is_table.true
+    checked_table _ if1.false is-table.ensures c.if-is_table.true
 
 pub returns : goal.returns
 returns c =

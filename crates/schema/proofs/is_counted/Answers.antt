@@ -1,6 +1,6 @@
 use mathlib.Core.Path.{sym, ap, ◌∙◌}
 use mathlib.Core.Bool.{not}
-use Rattle.schema.proofs.Scans.{counted_none, counted_not, counted-all}
+use Rattle.schema.proofs.Scans.{counted_none, counted_not, counted_all}
 use Rattle.wire.proofs.Choice.{choice}
 use Rattle.schema.specs.Payload.{is_counted}
 use Rattle.schema.proofs.is_counted.Goals as goal
@@ -29,4 +29,4 @@ returns c =
     let if2 = c.if-rest-eq0 in
     let u16-at = c.u16_at-count in
     let if1 = c.if-p-lt2 in
-    counted-all _ if1.false if2.false is-comment.ensures (ap not if3.false) u16-at.ensures c.paragraph_count.ensures
+    counted_all _ if1.false if2.false is-comment.ensures (ap not if3.false) u16-at.ensures c.paragraph_count.ensures

@@ -3,7 +3,7 @@ use native.Mathlib.Omega.{arith}
 use lib.ListN.{drop}
 use Rattle.token.specs.Table.{token_of, fault_of}
 use Rattle.token.proofs.Laws.{part_from}
-use Rattle.token.proofs.Records.{checking, checked_end, checked_full, checked_bad, checked_good, checked-next}
+use Rattle.token.proofs.Records.{checking, checked_end, checked_full, checked_bad, checked_good, checked_next}
 use Rattle.token.proofs.check_records.Goals.{After-fault-number}
 use Rattle.token.proofs.check_records.Goals as goal
 
@@ -73,7 +73,7 @@ loop-at-preserved c =
     let loop-test = c.loop-at-test in
     let loop = c.loop-at in
     rw (c.u16_at-in-loop-at.ensures, u32-at.ensures, row-after.ensures, u16-at.ensures, part_from)
-    (checked-next loop.invariant loop-test.true c.if-count-eq4096.false (fault-at (goal.at.loop-at-preserved c).After-fault-number) if2.false)
+    (checked_next loop.invariant loop-test.true c.if-count-eq4096.false (fault-at (goal.at.loop-at-preserved c).After-fault-number) if2.false)
 
 pub returns : goal.returns
 returns c = checked_end c.loop-at.invariant c.loop-at-test.false

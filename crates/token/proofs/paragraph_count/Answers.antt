@@ -1,5 +1,5 @@
 use native.Mathlib.Omega.{arith}
-use Rattle.token.proofs.Paragraphs.{counting, counted-all, counted_inside, counted_next}
+use Rattle.token.proofs.Paragraphs.{counting, counted_all, counted_inside, counted_next}
 use Rattle.token.proofs.paragraph_count.Goals as goal
 
 pub loop-at-init : goal.loop-at-init
@@ -12,4 +12,4 @@ pub loop-at-preserved : goal.loop-at-preserved
 loop-at-preserved c = rw c.u16_at.ensures (counted_next c.loop-at.invariant c.loop-at-test.true)
 
 pub returns : goal.returns
-returns c = counted-all c.loop-at.invariant c.loop-at-test.false
+returns c = counted_all c.loop-at.invariant c.loop-at-test.false

@@ -1,11 +1,11 @@
 -- `wire::put_decimal` meets its contract: the number falls as its digits are laid.
 use native.Mathlib.Omega.{arith}
 use lib.ListN.{length-set}
-use Rattle.wire.proofs.Numbers.{digits-none, digits_more, digits_whole, ten_places}
+use Rattle.wire.proofs.Numbers.{digits_none, digits_more, digits_whole, ten_places}
 use Rattle.wire.proofs.put_decimal.Goals as goal
 
 pub loop-m-init : goal.loop-m-init
-loop-m-init c = digits-none _ (omega arith)
+loop-m-init c = digits_none _ (omega arith)
 
 pub overflow_sub-i : goal.overflow_sub-i
 overflow_sub-i c = (ten_places _ _ c.loop-m-test.true c.loop-m.invariant.small).0

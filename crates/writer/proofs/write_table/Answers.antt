@@ -1,7 +1,7 @@
 -- `writer::write_table` meets its contract.
 use native.Mathlib.Omega.{arith}
 use Rattle.schema.proofs.Verdict.{fine}
-use Rattle.wire.proofs.Numbers.{all-bytes}
+use Rattle.wire.proofs.Numbers.{all_bytes}
 use Rattle.writer.proofs.Answers.{surely_fits}
 use Rattle.writer.proofs.write_table.Goals as goal
 
@@ -14,5 +14,5 @@ returns-then-t-out c =
     let if1 = c.if-t-out in
     let args = c.args in
     let pre = c.requires in
-    let b = all-bytes args.t.now (λ i. omega (arith, c.type_inv.t i)) in
+    let b = all_bytes args.t.now (λ i. omega (arith, c.type_inv.t i)) in
     surely_fits _ _ pre b (omega arith) (omega (arith, if1.true)) put-schema.ensures
