@@ -2,8 +2,7 @@
 """strip.py OUT.rs CRATE..: the Rattle source of the crates without its contracts, a Rust module for each crate, for rustc.
 
 The crates that these need, by crates.txt, come along. What the prover showed stays true of the stripped source: only `ghost`
-lines, `requires`, `ensures` and Rattle's own attributes are taken out, plain data is made `Copy`, and a function with a large array stays a function. Run
-it from anywhere.
+lines, `requires`, `ensures` and Rattle's own attributes are taken out, and a function with a large array stays a function. Run it from anywhere.
 """
 import pathlib
 import re
@@ -15,42 +14,55 @@ CLAUSE = re.compile(r"^[ \t]*(requires|ensures|ghost)\b[^\n{]*\{", re.M)
 
 
 def without_clauses(text):
-    text = re.sub(r"^ghost use [^;]*;\n", "", text, flags=re.M)
-    text = re.sub(r"^#!?\[(tactic|cycle|derive)\([^\n]*\)\]\n", "", text, flags=re.M)
+    text = re.sub(r"^[ \t]*ghost use [^;]*;\n", "", text, flags=re.M)
+    text = re.sub(r"^[ \t]*#!?\[(tactic|cycle)\([^\n]*\)\]\n", "", text, flags=re.M)
+    text = re.sub(r"^([ \t]*#\[derive\()([^)]*)\)\]\n", without_drop, text, flags=re.M)
     kept, place = [], 0
     while match := CLAUSE.search(text, place):
         kept.append(text[place:match.start()])
-        place, depth = match.end(), 1
-        while depth:
-            depth += {"{": 1, "}": -1}.get(text[place], 0)
-            place += 1
-        if text[place:place + 1] == "\n":
-            place += 1
+        place = braces_end(text, match.end())
+        if match.group(1) == "ghost":
+            # a member of a trait may have its type before its value; it ends with `;`, and a field with `,`
+            if value := re.match(r"[ \t]*=[ \t]*\{", text[place:]):
+                place = braces_end(text, place + value.end())
+            place += text[place:place + 1] in (";", ",")
+        place += text[place:place + 1] == "\n"
     return "".join(kept) + text[place:]
 
 
-def made_copy(text):
-    """A struct that holds a `&mut` can't be copied; every other one is plain data."""
-    def derive(match):
-        body = text[match.start():text.index("}", match.start())]
-        return match.group(0) if "&'a mut" in body else "#[derive(Clone, Copy)]\n" + match.group(0)
-    return re.sub(r"^(pub )?(struct|enum) \w+", derive, text, flags=re.M)
+def braces_end(text, place):
+    """The place past the brace that closes the one before `place`."""
+    depth = 1
+    while depth:
+        depth += {"{": 1, "}": -1}.get(text[place], 0)
+        place += 1
+    return place
+
+
+def without_drop(match):
+    """Rattle's `Drop` says that a value may be let go, which Rust's needn't be told."""
+    names = [name for name in match.group(2).split(", ") if name != "Drop"]
+    return f"{match.group(1)}{', '.join(names)})]\n" if names else ""
 
 
 def kept_apart(text):
     """rustc touches each page of a frame at its begin: a large array that is inlined would cost every call of the function around it."""
     def apart(match):
-        sizes = [int(size) for size in re.findall(r"= \[\w+; (\d+)\];", match.group(0))]
-        return "#[inline(never)]\n" * (max(sizes, default=0) >= 1_024) + match.group(0)
+        sizes = re.findall(r"= \[\w+; (\d+|N)\];", match.group(0))
+        large = any(size == "N" or int(size) >= 1_024 for size in sizes)
+        return "#[inline(never)]\n" * large + match.group(0)
     return re.sub(r"^(pub )?fn .*?^}\n", apart, text, flags=re.M | re.S)
 
 
-def module(path, crates):
-    text = kept_apart(made_copy(without_clauses(path.read_text())))
+def module(path, name, crates):
+    text = kept_apart(without_clauses(path.read_text()))
+    text = re.sub(r"(?<![\w:])crate::", f"crate::{name}::", text)
+    own = re.findall(r"^(?:pub )?mod (\w+);$", text, flags=re.M)
     for crate in crates:
-        text = re.sub(rf"(?<![\w:]){crate}::", f"crate::{crate}::", text)
+        if crate not in own:
+            text = re.sub(rf"(?<![\w:]){crate}::", f"crate::{crate}::", text)
     def inner(match):
-        return f"pub mod {match.group(2)} {{\n{module(path.with_name(match.group(2) + '.rt'), crates)}}}\n"
+        return f"pub mod {match.group(2)} {{\n{module(path.with_name(match.group(2) + '.rt'), name, crates)}}}\n"
     return re.sub(r"^(pub )?mod (\w+);\n", inner, text, flags=re.M)
 
 
@@ -72,7 +84,7 @@ def main():
     out, crates = sys.argv[1], with_dependencies(sys.argv[2:])
     text = "#![allow(dead_code, unused_imports)]\n"
     for crate in crates:
-        text += f"pub mod {crate} {{\n{module(CRATES / crate / 'src' / 'lib.rt', crates)}}}\n"
+        text += f"pub mod {crate} {{\n{module(CRATES / crate / 'src' / 'lib.rt', crate, crates)}}}\n"
     pathlib.Path(out).write_text(text)
 
 

@@ -32,58 +32,43 @@ mod fitted {
         names::{Ask, Said},
         side::{Read, Wrote},
     };
-    use ours::names::{Answer, Compared, Relative, Sameness, Survival};
-    use std::cmp::Ordering;
+    use ours::{reader::Answer, wire::Refused};
 
     pub fn read(table: &[u8], out: &mut [u8]) -> Read {
         match ours::reader::read(table, out) {
-            ours::reader::Answer::Refused(number, offset) => Read::Refused(number, offset),
-            ours::reader::Answer::Schema(length) => Read::Schema(length),
-            ours::reader::Answer::Errors(length) => Read::Errors(length),
+            Ok(Answer::Schema(length)) => Read::Schema(length),
+            Ok(Answer::Errors(length)) => Read::Errors(length),
+            Err(refused) => Read::Refused(refused.refusal.number(), refused.offset),
         }
     }
 
     pub fn write(table: &[u8], out: &mut [u8]) -> Wrote {
         match ours::writer::write(table, out) {
-            ours::writer::Written::Refused(number, offset) => Wrote::Refused(number, offset),
-            ours::writer::Written::Text(length) => Wrote::Text(length),
+            Ok(length) => Wrote::Text(length),
+            Err(refused) => Wrote::Refused(refused.refusal.number(), refused.offset),
         }
     }
 
     pub fn on_names(ask: Ask, out: &mut [u8], a: &[u8], b: &[u8]) -> Said {
         match ask {
-            Ask::Snake => written(ours::names::snake_case(out, a)),
-            Ask::Camel => written(ours::names::camel_case(out, a)),
-            Ask::Pascal => written(ours::names::pascal_case(out, a)),
-            Ask::Join => written(ours::names::join(out, a, b)),
-            Ask::Text => written(ours::names::text(out, a)),
-            Ask::Cmp => match ours::names::cmp(a, b) {
-                Compared::Less => Said::Order(Ordering::Less),
-                Compared::Equal => Said::Order(Ordering::Equal),
-                Compared::Greater => Said::Order(Ordering::Greater),
-                Compared::Refused(number, offset) => Said::Refused(number, offset),
-            },
-            Ask::Eq => match ours::names::eq(a, b) {
-                Sameness::Same => Said::Is(true),
-                Sameness::Different => Said::Is(false),
-                Sameness::Refused(number, offset) => Said::Refused(number, offset),
-            },
-            Ask::Survives => match ours::names::survives(a) {
-                Survival::Survives => Said::Is(true),
-                Survival::Changes => Said::Is(false),
-                Survival::Refused(number, offset) => Said::Refused(number, offset),
-            },
-            Ask::Relativize => match ours::names::relativize(out, a, b) {
-                Relative::Written(length, up) => Said::Relative(length, up),
-                Relative::Refused(number, offset) => Said::Refused(number, offset),
-            },
+            Ask::Snake => said(ours::names::snake_case(out, a), Said::Written),
+            Ask::Camel => said(ours::names::camel_case(out, a), Said::Written),
+            Ask::Pascal => said(ours::names::pascal_case(out, a), Said::Written),
+            Ask::Join => said(ours::names::join(out, a, b), Said::Written),
+            Ask::Text => said(ours::names::text(out, a), Said::Written),
+            Ask::Cmp => said(ours::names::cmp(a, b), Said::Order),
+            Ask::Eq => said(ours::names::eq(a, b), Said::Is),
+            Ask::Survives => said(ours::names::survives(a), Said::Is),
+            Ask::Relativize => {
+                said(ours::names::relativize(out, a, b), |r| Said::Relative(r.size, r.up))
+            }
         }
     }
 
-    fn written(answer: Answer) -> Said {
+    fn said<T>(answer: Result<T, Refused>, answered: impl FnOnce(T) -> Said) -> Said {
         match answer {
-            Answer::Written(length) => Said::Written(length),
-            Answer::Refused(number, offset) => Said::Refused(number, offset),
+            Ok(value) => answered(value),
+            Err(refused) => Said::Refused(refused.refusal.number(), refused.offset),
         }
     }
 }

@@ -1,6 +1,6 @@
 -- The numbers of a collector: after the imports and the declarations its length is the list's, and so is its count.
 use Prim.Native.Nat.{ℕ, ◌+◌, ◌*◌, ◌^◌, ◌≤◌, ◌<◌, min}
-use mathlib.Core.Path.{◌≡◌, refl, sym, ap, subst, ◌∙◌}
+use mathlib.Core.Path.{◌≡◌, ap, ◌∙◌}
 use mathlib.Core.List.{List}
 use native.Mathlib.Omega.{arith}
 use lib.ListN.{length}
@@ -10,15 +10,12 @@ use Rattle.wire.proofs.Laws.{adv_is}
 use Rattle.token.specs.Places.{tokens_from}
 use Rattle.token.proofs.Walk.{wf_few}
 use Rattle.grammar.specs.Error.{Error, errors_bytes}
-use Rattle.grammar.specs.Reading.{parse_opening}
 use Rattle.grammar.proofs.Count.{errors_length, errors_at_most_tokens}
-use Rattle.parser.specs.declared.Skip.{Skip}
-use Rattle.places.specs.Imports.{Opening}
-use Rattle.judge.specs.Judges.{Before, Room, Judgeable}
+use Rattle.judge.specs.Judges.{Room, Judgeable}
 use Rattle.judge.proofs.Opening.{imports_room, schema_judged}
-use Rattle.collector.specs.Collected.{Collected, Counts, Grows, grown_to, none, ImportsFrom, DeclarationsFrom, ImportsPushed, DeclarationsPushed}
+use Rattle.collector.specs.Collected.{Collected, Counts, Grows, grown_to, none, ImportsPushed, DeclarationsPushed}
 use Rattle.collector.specs.declared.Collector.{Collector}
-use Rattle.collector.specs.declared.Imports.{Imports}
+use Rattle.parser.specs.declared.Cursor.{Cursor}
 
 -- the end of a list of errors that begins at `at`
 end_is : {o o' : Bytes} {at r : ℕ} (es : List Error) → Wrote o at (errors_bytes es) o' r → at ≤ 18446744073709551615
@@ -37,37 +34,21 @@ module _ (es ds : List Error) {o o₁ o₂ : Bytes} {out to : ℕ} (v : Wrote o 
   count_is : (all : List Error) → Wrote o 0 (errors_bytes all) o₂ to → length all ≤ 4096 → (grown_to (grown_to none out) to).count ≡ length all
   count_is all u few = omega (arith, first_end, second_end, end_is all u (omega arith))
 
--- past the schema's comment
-pub opening_before : {t : Bytes} {r : Skip} → Opening t r → Before t (parse_opening (tokens_from t 0)).rest r.next
-opening_before o = record { tokens = rw o.read; wf = o.wf }
-
 -- the end of a list doesn't fall
 pub grows : {c : Collector} {o o' : Bytes} {to : ℕ} (es : List Error) → Counts c → c.length < 2 ^ 64 → Wrote o c.length (errors_bytes es) o' to → Grows c to
 grows es few fits w = record { few = few; on = omega (arith, fits, end_is es w (omega (arith, fits))) }
 
--- a rule's errors, and the collector grown to their end
-pub imports_pushed : {t : Bytes} {end : ℕ} {o : Bytes} {c : Collector} {o' : Bytes} {c' : Collector} {r : Imports} → ImportsFrom t end o c.length o' r
-    → c' ≡ grown_to c r.to
-    → ImportsPushed t end o c o' c' r.next
-imports_pushed {t} {end} {o} {c} {o'} {r = r} v e =
-    subst (λ (d : Collector). ImportsPushed t end o c o' d r.next) (sym e) (record { wrote = v; grown = refl })
-
-pub declarations_pushed : {t : Bytes} {from end : ℕ} {o : Bytes} {c : Collector} {o' : Bytes} {c' : Collector} {r : ℕ}
-    → DeclarationsFrom t from end o c.length o' r → c' ≡ grown_to c r
-    → DeclarationsPushed t from end o c o' c'
-declarations_pushed {t} {from} {end} {o} {c} {o'} v e = subst (DeclarationsPushed t from end o c o') (sym e) (record { wrote = v; grown = refl })
-
-module _ {t : Bytes} {end : ℕ} {o o₁ : Bytes} {c₁ : Collector} {next : ℕ} (v : ImportsPushed t end o none o₁ c₁ next) where
+module _ {t : Bytes} {end : ℕ} {o o₁ : Bytes} {c₁ : Collector} {next : Cursor} (v : ImportsPushed t end o none o₁ c₁ next) where
   pub first_counts : Counts c₁
   first_counts = omega (arith, ap (λ (c : Collector). c.count) v.grown)
 
   pub room_after : {items spare items' spare' : List ℕ} → Judgeable t end items spare → length items' ≡ length items → length spare' ≡ length spare
-      → Room t (record { at = next }) items' spare'
-  room_after p x y = imports_room p.room v.wrote.before end v.wrote.judged x y
+      → Room t next items' spare'
+  room_after p x y = imports_room p.room v.wrote.before end v.wrote.rest v.wrote.wf x y
 
   pub collected : {o₂ : Bytes} {c₂ : Collector} {items spare : List ℕ} → DeclarationsPushed t next end o₁ c₁ o₂ c₂ → Judgeable t end items spare
       → Collected t o o₂ c₂
   collected {c₂ = c₂} w p =
-      let all = schema_judged p.last v.wrote.before v.wrote.judged w.wrote in
-      let n = count_is _ _ v.wrote.judged.wrote w.wrote _ all (omega (arith, wf_few p.room.wf, errors_at_most_tokens (tokens_from t 0))) in
+      let all = schema_judged next p.last v.wrote.before v.wrote.wrote v.wrote.rest w.wrote in
+      let n = count_is _ _ v.wrote.wrote w.wrote _ all (omega (arith, wf_few p.room.wf, errors_at_most_tokens (tokens_from t 0))) in
       record { wrote = all; number = ap (λ (c : Collector). c.count) w.grown ∙ ap (λ (c : Collector). (grown_to c c₂.length).count) v.grown ∙ n }

@@ -2,14 +2,13 @@
 use Rattle.std.specs.Prelude.{ℕ, ◌+◌, ◌-◌, ◌/◌, ◌≤◌, ◌≡◌, [], length}
 use Rattle.wire.specs.Bytes.{Bytes}
 use Rattle.wire.specs.Put.{Wrote}
-use Rattle.token.specs.Places.{tokens_from}
+use Rattle.token.specs.Places.{tokens_from, Wf}
 use Rattle.grammar.specs.Error.{errors_bytes}
 use Rattle.grammar.specs.Reading.{parse_opening, parse_schema}
 use Rattle.parser.specs.Steps.{ahead}
 use Rattle.parser.specs.declared.Cursor.{Cursor}
-use Rattle.judge.specs.Judges.{Judges, Before, imports_of, declarations_of}
+use Rattle.judge.specs.Judges.{Before, imports_of, declarations_of}
 use Rattle.collector.specs.declared.Collector.{Collector}
-use Rattle.collector.specs.declared.Imports.{Imports}
 
 abbrev pub none : Collector
 none = record { length = 0; count = 0 }
@@ -27,20 +26,22 @@ pub record Grows (c : Collector) (to : ℕ) : Type 0 where
   pub on : c.length ≤ to
 
 -- past the schema's comment the imports' errors are written from a place on, and then the declarations'
-pub record ImportsFrom (t : Bytes) (end : ℕ) (o : Bytes) (at : ℕ) (o' : Bytes) (r : Imports) : Type 0 where
+pub record ImportsFrom (t : Bytes) (end : ℕ) (o : Bytes) (at : ℕ) (o' : Bytes) (to : ℕ) (next : Cursor) : Type 0 where
   pub from : Cursor
   pub before : Before t (parse_opening (tokens_from t 0)).rest from
-  pub judged : Judges t o at (imports_of end [] (ahead t from)) o' (record { out = r.to; next = record { at = r.next } })
+  pub wrote : Wrote o at (errors_bytes (imports_of end [] (ahead t from)).errors) o' to
+  pub rest : ahead t next ≡ (imports_of end [] (ahead t from)).rest
+  pub wf : Wf t next.at
 
-abbrev pub DeclarationsFrom : Bytes → ℕ → ℕ → Bytes → ℕ → Bytes → ℕ → Type 0
-DeclarationsFrom t from end o at o' r = Wrote o at (errors_bytes (declarations_of end (tokens_from t from)).errors) o' r
+abbrev pub DeclarationsFrom : Bytes → Cursor → ℕ → Bytes → ℕ → Bytes → ℕ → Type 0
+DeclarationsFrom t from end o at o' to = Wrote o at (errors_bytes (declarations_of end (ahead t from)).errors) o' to
 
 -- the same from the end of the list that a collector holds, which then holds the new end
-pub record ImportsPushed (t : Bytes) (end : ℕ) (o : Bytes) (c : Collector) (o' : Bytes) (c' : Collector) (next : ℕ) : Type 0 where
-  pub wrote : ImportsFrom t end o c.length o' (record { to = c'.length; next = next })
+pub record ImportsPushed (t : Bytes) (end : ℕ) (o : Bytes) (c : Collector) (o' : Bytes) (c' : Collector) (next : Cursor) : Type 0 where
+  pub wrote : ImportsFrom t end o c.length o' c'.length next
   pub grown : c' ≡ grown_to c c'.length
 
-pub record DeclarationsPushed (t : Bytes) (from end : ℕ) (o : Bytes) (c : Collector) (o' : Bytes) (c' : Collector) : Type 0 where
+pub record DeclarationsPushed (t : Bytes) (from : Cursor) (end : ℕ) (o : Bytes) (c : Collector) (o' : Bytes) (c' : Collector) : Type 0 where
   pub wrote : DeclarationsFrom t from end o c.length o' c'.length
   pub grown : c' ≡ grown_to c c'.length
 

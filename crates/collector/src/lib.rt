@@ -6,10 +6,11 @@ ghost use Rattle.std.specs.Prelude.{◌≡◌, ◌≤◌, length};
 ghost use Rattle.token.specs.Places.{tokens_from};
 ghost use Rattle.places.specs.Imports.{Orders};
 ghost use Rattle.judge.specs.Judges.{Room, Judgeable};
-ghost use Rattle.collector.specs.Collected.{Collected, Counts, Grows, grown_to, ImportsFrom, DeclarationsFrom, ImportsPushed, DeclarationsPushed};
+ghost use Rattle.collector.specs.Collected.{Collected, Counts, Grows, grown_to, ImportsPushed, DeclarationsPushed};
 
 use parser::Cursor;
 use places::Ordered;
+use wire::Writer;
 
 // The errors so far: the bytes of their list and their number.
 #[derive(Clone, Copy, Drop)]
@@ -18,59 +19,15 @@ pub struct Collector {
     pub count: usize,
 }
 
-// The list ends at `to` now; each of its records has 14 bytes.
-fn grown(errors: Collector, to: usize) -> Collector
-    requires { Grows errors to }
-    ensures { result ≡ grown_to errors to }
-{
-    Collector {
-        length: to,
-        count: errors.count + (to - errors.length) / 14,
+impl Collector {
+    // The list ends at `to` now; each of its records has 14 bytes.
+    fn grow(&mut self, to: usize)
+        requires { Grows self.old to }
+        ensures { self.new ≡ grown_to self.old to }
+    {
+        self.count += (to - self.length) / 14;
+        self.length = to;
     }
-}
-
-// Where the errors of the imports end, and where the declarations begin.
-#[derive(Drop)]
-struct Imports {
-    pub to: usize,
-    pub next: usize,
-}
-
-// The imports, by value.
-fn judge_imports(
-    out: &mut [u8],
-    at: usize,
-    t: &[u8],
-    end: u32,
-    imports: &[u64],
-    order: Ordered,
-    marks: &mut [u64],
-) -> Imports
-    requires { (Orders t.now imports.now order) × (length (tokens_from t.now 0) ≤ length marks.old) }
-    ensures { ImportsFrom t.now end out.old at out.new result }
-{
-    let i = judge::judge_imports(out, at, t, end, imports, order, marks);
-    let next = i.next;
-    Imports {
-        to: i.out,
-        next: next.at,
-    }
-}
-
-// The declarations, by value.
-fn judge_declarations(
-    out: &mut [u8],
-    at: usize,
-    t: &[u8],
-    from: usize,
-    end: u32,
-    items: &mut [u64],
-    spare: &mut [u64],
-) -> usize
-    requires { Room t.now (record { at = from }) items.old spare.old }
-    ensures { DeclarationsFrom t.now from end out.old at out.new result }
-{
-    judge::judge_declarations(out, at, t, Cursor { at: from }, end, items, spare)
 }
 
 // Answers where the declarations begin.
@@ -82,32 +39,41 @@ fn push_imports(
     imports: &[u64],
     order: Ordered,
     marks: &mut [u64],
-) -> usize
+) -> Cursor
     requires { (Counts errors.old) × (Orders t.now imports.now order) × (length (tokens_from t.now 0) ≤ length marks.old) }
     ensures { ImportsPushed t.now end out.old errors.old out.new errors.new result }
 {
-    let i = judge_imports(out, errors.length, t, end, imports, order, marks);
-    *errors = grown(*errors, i.to);
-    i.next
+    let mut w = Writer {
+        out,
+        at: errors.length,
+    };
+    let next = judge::judge_imports(&mut w, t, end, imports, order, marks);
+    errors.grow(w.at);
+    next
 }
 
 fn push_declarations(
     errors: &mut Collector,
     out: &mut [u8],
     t: &[u8],
-    from: usize,
+    from: Cursor,
     end: u32,
     items: &mut [u64],
     spare: &mut [u64],
 )
-    requires { (Counts errors.old) × (Room t.now (record { at = from }) items.old spare.old) }
+    requires { (Counts errors.old) × (Room t.now from items.old spare.old) }
     ensures { DeclarationsPushed t.now from end out.old errors.old out.new errors.new }
 {
-    let to = judge_declarations(out, errors.length, t, from, end, items, spare);
-    *errors = grown(*errors, to);
+    let mut w = Writer {
+        out,
+        at: errors.length,
+    };
+    judge::judge_declarations(&mut w, t, from, end, items, spare);
+    errors.grow(w.at);
 }
 
-// The schema's rules in turn: the errors of a table that token::check passed, of which `end` is the last token's end. The lent lists have room for a place of each token.
+// The schema's rules in turn: the errors of a table that token::check passed, of which `end` is the last token's end. The lent lists have room for a
+// place of each token.
 pub fn parse_schema(
     out: &mut [u8],
     t: &[u8],

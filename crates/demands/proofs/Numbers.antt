@@ -1,40 +1,32 @@
--- The numbers that a token table is refused with: 1 to 7.
+-- The numbers that a token table is refused with: 1 to 7. And the refusals of those and of 8.
 use Prim.Native.Nat.{ℕ, zero, suc, ◌+◌, ◌≤◌}
 use mathlib.Core.Path.{◌≡◌, refl, sym, ◌∙◌}
-use mathlib.Core.Bool.{Bool, true, false, not, ◌&&◌}
+use mathlib.Core.Bool.{Bool, true, false}
 use mathlib.Core.List.{List, [], ◌∷◌}
 use native.Mathlib.Omega.{arith}
 use native.Mathlib.Numerals.{sub-one}
-use lib.Dec.{ltb, leb}
+use lib.Dec.{ltb}
 use lib.ListN.{length, drop}
 use Rattle.wire.specs.Bytes.{Bytes}
 use Rattle.wire.specs.Pick.{pick}
-use Rattle.identifier.specs.Byte.{within}
+use Rattle.wire.specs.Refusal.{number_of}
+use Rattle.wire.specs.declared.Refusal.{Refusal}
+use Rattle.wire.specs.declared.Refusal.TheVariants.{TableTooLong, RecordCutShort, UnknownKind, WrongPayload, WrongRange}
+use Rattle.wire.specs.declared.Refusal.TheVariants.{TooManyTokens, TooManyBrackets, NoRoom}
+use Rattle.wire.proofs.Choice.{choice}
 use Rattle.token.specs.Token.{Token}
-use Rattle.token.specs.Payload.{is_payload}
-use Rattle.token.specs.Table.{Decoded, refused, tokens, size_of, token_of, is_whole, row_after, token_fault, fault_of, add_token, decode_from, decode}
+use Rattle.token.specs.Table.{Decoded, refused, tokens, size_of, token_of, row_after, token_fault, fault_of, add_token, decode_from, decode}
 use Rattle.token.proofs.Records.{decode_end, decode_full, decode_bad, decode_next}
 
 same_number : {a b c d : ℕ} → ◌≡◌ {A = Decoded} (refused a b) (refused c d) → a ≡ c
 same_number h = cc
 
 tokens≢refused : {ts : List Token} {n at : ℕ} → ◌≡◌ {A = Decoded} (tokens ts) (refused n at) → ⊥
-tokens≢refused h = let z : ◌≡◌ {A = ℕ} 0 1 = cc in omega arith
+tokens≢refused h = cc
 
 fault_small : (last row : ℕ) (bs : Bytes) → fault_of last row bs ≤ 7
-unfolding fault_of token_fault pick
-fault_small last row bs =
-    let t = token_of bs in
-    go (not (is_whole bs)) (not (within 1 25 t.kind)) (not (is_payload t.kind t.payload)) (not (leb last t.start && leb t.start t.end))
-    (ltb 64 (row_after row t.kind))
-  where
-    go : (a b c d e : Bool) → pick a 2 (pick b 3 (pick c 4 (pick d 5 (pick e 7 0)))) ≤ 7
-    go true b c d e = omega arith
-    go false true c d e = omega arith
-    go false false true d e = omega arith
-    go false false false true e = omega arith
-    go false false false false true = omega arith
-    go false false false false false = omega arith
+unfolding fault_of token_fault
+fault_small last row bs = search (choice, arith)
 
 add_refused : (t : Token) (d : Decoded) {n at : ℕ} → add_token t d ≡ refused n at → d ≡ refused n at
 add_refused t (refused k o) h = h
@@ -66,3 +58,15 @@ refused_number table {n} {offset} h = go (ltb 65536 (length table)) refl
     go : (b : Bool) → ltb 65536 (length table) ≡ b → (1 ≤ n) × (n ≤ 7)
     go true e = let q = same_number (rw e at h) in (omega arith, omega arith)
     go false e = from_number 4096 0 0 0 table (rw e at h)
+
+pub refusal_of : (n : ℕ) → 1 ≤ n → n ≤ 8 → (r : Refusal) × (number_of r ≡ n)
+refusal_of zero l m = absurd (omega arith)
+refusal_of (suc zero) l m = (TableTooLong, refl)
+refusal_of (suc (suc zero)) l m = (RecordCutShort, refl)
+refusal_of (suc (suc (suc zero))) l m = (UnknownKind, refl)
+refusal_of (suc (suc (suc (suc zero)))) l m = (WrongPayload, refl)
+refusal_of (suc (suc (suc (suc (suc zero))))) l m = (WrongRange, refl)
+refusal_of (suc (suc (suc (suc (suc (suc zero)))))) l m = (TooManyTokens, refl)
+refusal_of (suc (suc (suc (suc (suc (suc (suc zero))))))) l m = (TooManyBrackets, refl)
+refusal_of (suc (suc (suc (suc (suc (suc (suc (suc zero)))))))) l m = (NoRoom, refl)
+refusal_of (suc (suc (suc (suc (suc (suc (suc (suc (suc n))))))))) l m = absurd (omega arith)

@@ -4,65 +4,64 @@ use mathlib.Core.Path.{◌≡◌, refl, ◌∙◌}
 use mathlib.Core.Bool.{Bool, true, false}
 use mathlib.Core.Option.{Option, none, some}
 use mathlib.Core.Logic.{◌⊎◌, inl, inr}
-use native.Mathlib.Omega.{arith}
 use lib.Dec.{leb, ltb}
 use lib.ListN.{length}
+use Rattle.std.specs.Prelude.{Result, Ok, Err}
 use Rattle.wire.specs.Bytes.{Bytes}
 use Rattle.wire.specs.Pick.{pick}
 use Rattle.wire.specs.Put.{laid}
+use Rattle.wire.specs.Refusal.{number_of, refused_by}
+use Rattle.wire.specs.declared.Refused.{Refused}
+use Rattle.wire.specs.declared.Refusal.TheVariants.{TableTooLong, NoRoom}
 use Rattle.schema.specs.Ast.{Schema}
 use Rattle.schema.specs.Decode.{decode_schema}
 use Rattle.text.specs.Text.{text_of}
 use Rattle.writer.specs.Written.{answer_to, left_by, Writes}
-use Rattle.writer.specs.declared.Written.{Written}
-use Rattle.writer.specs.declared.Written.TheVariants as write
 use Rattle.names.specs.Answer.{answer_of, buffer_of, Answers, with_steps, Relatives}
-use Rattle.names.specs.declared.Answer.{Answer}
-use Rattle.names.specs.declared.Answer.TheVariants as name
-use Rattle.names.specs.declared.Relative.TheVariants as relative
 use Rattle.demands.specs.Outcome.{Refusal}
 
-same_write : {a b c d : ℕ} → ◌≡◌ {A = Written} (write.Refused a b) (write.Refused c d) → (a ≡ c) × (b ≡ d)
-same_write h = (cc, cc)
+-- a refusal that is known tells its number and its offset
+refused_as : {e : Refused} (f : Refused) → ◌≡◌ {A = Result ℕ Refused} (Err e) (Err f) → e ≡ f
+refused_as f h = cc
 
-write_fits : (out : Bytes) (text : Bytes) (b : Bool) {n o : ℕ} → write.Refused n o ≡ pick b (write.Text (length text)) (write.Refused 8 0)
+write_fits : (out : Bytes) (text : Bytes) (b : Bool) {e : Refused} → Err e ≡ pick b (Ok (length text)) (Err (refused_by NoRoom))
     → leb (length text) (length out) ≡ b
-    → ((n ≡ 8) × (o ≡ 0)) × (laid out text ≡ out)
+    → (e ≡ refused_by NoRoom) × (laid out text ≡ out)
 unfolding pick laid
-write_fits out text true h e = let z : ◌≡◌ {A = ℕ} 0 1 = cc in absurd (omega arith)
-write_fits out text false h e = (same_write h, rw e)
+write_fits out text true h l = absurd cc
+write_fits out text false h l = (refused_as _ h, rw l)
 
-pub write_refusal : {t out out' : Bytes} {n o : ℕ} → Writes t out out' (write.Refused n o) → Refusal ((n ≡ 1) ⊎ ((n ≡ 9) ⊎ (n ≡ 8))) o out out'
+pub write_refusal : {t out out' : Bytes} {e : Refused} → Writes t out out' (Err e)
+    → Refusal ((number_of e.refusal ≡ 1) ⊎ ((number_of e.refusal ≡ 9) ⊎ (number_of e.refusal ≡ 8))) e.offset out out'
 unfolding pick
-write_refusal {t} {out} {out'} {n} {o} p = go (ltb 131072 (length t)) (decode_schema t) p.answer p.buffer
+write_refusal {t} {out} {out'} {e} p = go (ltb 131072 (length t)) (decode_schema t) p.answer p.buffer
   where
-    go : (b : Bool) (d : Option Schema) → write.Refused n o ≡ pick b (write.Refused 1 0) (answer_to (length out) d) → out' ≡ pick b out (left_by out d)
-        → Refusal ((n ≡ 1) ⊎ ((n ≡ 9) ⊎ (n ≡ 8))) o out out'
-    go true d a b = let e = same_write a in record { number = inl e.0; offset = e.1; buffer = b }
-    go false none a b = let e = same_write a in record { number = inr (inl e.0); offset = e.1; buffer = b }
+    go : (b : Bool) (d : Option Schema) → Err e ≡ pick b (Err (refused_by TableTooLong)) (answer_to (length out) d) → out' ≡ pick b out (left_by out d)
+        → Refusal ((number_of e.refusal ≡ 1) ⊎ ((number_of e.refusal ≡ 9) ⊎ (number_of e.refusal ≡ 8))) e.offset out out'
+    go true d a b = let q = refused_as _ a in record { number = inl (rw q); offset = rw q; buffer = b }
+    go false none a b = let q = refused_as _ a in record { number = inr (inl (rw q)); offset = rw q; buffer = b }
     go false (some s) a b =
-        let (e, f) = write_fits out (text_of s) (leb (length (text_of s)) (length out)) a refl in
-        record { number = inr (inr e.0); offset = e.1; buffer = b ∙ f }
+        let (q, f) = write_fits out (text_of s) (leb (length (text_of s)) (length out)) a refl in
+        record { number = inr (inr (rw q)); offset = rw q; buffer = b ∙ f }
 
-same_name : {a b c d : ℕ} → ◌≡◌ {A = Answer} (name.Refused a b) (name.Refused c d) → (a ≡ c) × (b ≡ d)
-same_name h = (cc, cc)
-
-name_refused : (good : Bool) (bs out : Bytes) {n o : ℕ} → name.Refused n o ≡ answer_of good bs out → Refusal ((n ≡ 10) ⊎ (n ≡ 8)) o out (buffer_of good bs out)
+name_refused : (good : Bool) (bs out : Bytes) {e : Refused} → Err e ≡ answer_of good bs out
+    → Refusal ((number_of e.refusal ≡ 10) ⊎ (number_of e.refusal ≡ 8)) e.offset out (buffer_of good bs out)
 unfolding answer_of buffer_of laid pick
-name_refused false bs out a = let e = same_name a in record { number = inl e.0; offset = e.1; buffer = refl }
-name_refused true bs out {n} {o} a = go (leb (length bs) (length out)) refl
+name_refused false bs out {e} a = let q = refused_as _ a in record { number = inl (rw q); offset = rw q; buffer = refl }
+name_refused true bs out {e} a = go (leb (length bs) (length out)) refl
   where
-    go : (b : Bool) → leb (length bs) (length out) ≡ b → Refusal ((n ≡ 10) ⊎ (n ≡ 8)) o out (laid out bs)
-    go true e = let h = rw e at a in let z : ◌≡◌ {A = ℕ} 0 1 = cc in absurd (omega arith)
-    go false e = let h = same_name (rw e at a) in record { number = inr h.0; offset = h.1; buffer = rw e }
+    go : (b : Bool) → leb (length bs) (length out) ≡ b → Refusal ((number_of e.refusal ≡ 10) ⊎ (number_of e.refusal ≡ 8)) e.offset out (laid out bs)
+    go true t = let h = rw t at a in absurd cc
+    go false t = let q = refused_as _ (rw t at a) in record { number = inr (rw q); offset = rw q; buffer = rw t }
 
-pub name_refusal : {good : Bool} {bs out out' : Bytes} {n o : ℕ} → Answers good bs out out' (name.Refused n o) → Refusal ((n ≡ 10) ⊎ (n ≡ 8)) o out out'
+pub name_refusal : {good : Bool} {bs out out' : Bytes} {e : Refused} → Answers good bs out out' (Err e)
+    → Refusal ((number_of e.refusal ≡ 10) ⊎ (number_of e.refusal ≡ 8)) e.offset out out'
 name_refusal {good} {bs} {out} p = rw p.buffer (name_refused good bs out p.answer)
 
-with_refused : (up : ℕ) (a : Answer) {n o : ℕ} → relative.Refused n o ≡ with_steps up a → name.Refused n o ≡ a
-with_refused up (name.Written k) h = let z : ◌≡◌ {A = ℕ} 0 1 = cc in absurd (omega arith)
-with_refused up (name.Refused k at) {n} {o} h = let p : n ≡ k = cc in let q : o ≡ at = cc in rw (p, q)
+with_refused : (up : ℕ) (a : Result ℕ Refused) {e : Refused} → Err e ≡ with_steps up a → Err e ≡ a
+with_refused up (Ok k) h = absurd cc
+with_refused up (Err f) {e} h = let q : e ≡ f = cc in rw q
 
-pub relative_refusal : {good : Bool} {bs out out' : Bytes} {up n o : ℕ} → Relatives good bs up out out' (relative.Refused n o)
-    → Refusal ((n ≡ 10) ⊎ (n ≡ 8)) o out out'
+pub relative_refusal : {good : Bool} {bs out out' : Bytes} {up : ℕ} {e : Refused} → Relatives good bs up out out' (Err e)
+    → Refusal ((number_of e.refusal ≡ 10) ⊎ (number_of e.refusal ≡ 8)) e.offset out out'
 relative_refusal {good} {bs} {out} {up = up} p = rw p.buffer (name_refused good bs out (with_refused up (answer_of good bs out) p.answer))

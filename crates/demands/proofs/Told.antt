@@ -8,8 +8,13 @@ use lib.Dec.{leb}
 use lib.ListN.{length, drop}
 use lib.Seq.{take_at, drop_at}
 use borrow.Author.Tests.{leb-false}
+use Rattle.std.specs.Prelude.{Result, Ok, Err}
 use Rattle.wire.specs.Bytes.{Bytes}
 use Rattle.wire.specs.Pick.{pick}
+use Rattle.wire.specs.Refusal.{number_of}
+use Rattle.wire.specs.declared.Refusal.{Refusal}
+use Rattle.wire.specs.declared.Refused.{Refused}
+use Rattle.wire.proofs.Refusals as wire
 use Rattle.token.specs.Token.{Token}
 use Rattle.token.specs.Table.{Decoded, refused, tokens, decode}
 use Rattle.schema.specs.Encode.{encode_schema}
@@ -25,26 +30,66 @@ use Rattle.grammar.proofs.Twice.{schema_small}
 use Rattle.grammar.proofs.Count.{errors_length, errors_short}
 use Rattle.grammar.proofs.Outcomes.{parse_schema_lem, parse_errors, read_refused, read_tokens}
 use Rattle.grammar.proofs.Demand3.{unique, refuses_exactly, table_sound}
-use Rattle.reader.specs.Answers.{told, Answers}
-use Rattle.reader.specs.declared.Answer.TheVariants.{Refused, Schema, Errors}
+use Rattle.reader.specs.Answers.{Told, told, numbered, Answers}
+use Rattle.reader.specs.declared.Answer.{Answer}
+use Rattle.reader.specs.declared.Answer.TheVariants.{Schema, Errors}
 use Rattle.demands.specs.Outcome.{Front, SchemaRead, ErrorsRead}
-use Rattle.demands.proofs.Numbers.{refused_number}
+use Rattle.demands.proofs.Numbers.{refused_number, refusal_of}
 
 -- what was told of an answer is which of the three it is
-told_schema : (a : reading.Answer) {n : ℕ} → told a ≡ Schema n → (bs : Bytes) × (a ≡ reading.Answer.schema bs) × (n ≡ length bs)
-told_schema (reading.Answer.refusal number offset) h = let z : ◌≡◌ {A = ℕ} 0 1 = cc in absurd (omega arith)
+told_schema : (a : reading.Answer) {n : ℕ} → told a ≡ Told.schema n → (bs : Bytes) × (a ≡ reading.Answer.schema bs) × (n ≡ length bs)
+told_schema (reading.Answer.refusal number offset) h = absurd cc
 told_schema (reading.Answer.schema bs) h = (bs, refl, cc)
-told_schema (reading.Answer.errors bs) h = let z : ◌≡◌ {A = ℕ} 0 1 = cc in absurd (omega arith)
+told_schema (reading.Answer.errors bs) h = absurd cc
 
-told_errors : (a : reading.Answer) {n : ℕ} → told a ≡ Errors n → (bs : Bytes) × (a ≡ reading.Answer.errors bs) × (n ≡ length bs)
-told_errors (reading.Answer.refusal number offset) h = let z : ◌≡◌ {A = ℕ} 0 1 = cc in absurd (omega arith)
-told_errors (reading.Answer.schema bs) h = let z : ◌≡◌ {A = ℕ} 0 1 = cc in absurd (omega arith)
+told_errors : (a : reading.Answer) {n : ℕ} → told a ≡ Told.errors n → (bs : Bytes) × (a ≡ reading.Answer.errors bs) × (n ≡ length bs)
+told_errors (reading.Answer.refusal number offset) h = absurd cc
+told_errors (reading.Answer.schema bs) h = absurd cc
 told_errors (reading.Answer.errors bs) h = (bs, refl, cc)
 
-told_refusal : (a : reading.Answer) {n offset : ℕ} → told a ≡ Refused n offset → a ≡ reading.Answer.refusal n offset
+told_refusal : (a : reading.Answer) {n offset : ℕ} → told a ≡ Told.refused n offset → a ≡ reading.Answer.refusal n offset
 told_refusal (reading.Answer.refusal number at) {n} {offset} h = let p : number ≡ n = cc in let q : at ≡ offset = cc in rw (p, q)
-told_refusal (reading.Answer.schema bs) h = let z : ◌≡◌ {A = ℕ} 0 1 = cc in absurd (omega arith)
-told_refusal (reading.Answer.errors bs) h = let z : ◌≡◌ {A = ℕ} 0 1 = cc in absurd (omega arith)
+told_refusal (reading.Answer.schema bs) h = absurd cc
+told_refusal (reading.Answer.errors bs) h = absurd cc
+
+-- one answer of the code has one number, offset and length
+same_refused : {n m a b : ℕ} → Told.refused n a ≡ Told.refused m b → (n ≡ m) × (a ≡ b)
+same_refused h = (cc, cc)
+
+abbrev refused_of : Refusal → ℕ → Result Answer Refused
+refused_of refusal offset = Err (record { refusal = refusal; offset = offset })
+
+pub numbered_once : (a b : Result Answer Refused) → numbered a ≡ numbered b → a ≡ b
+numbered_once (Ok (Schema n)) (Ok (Schema m)) h = let e : n ≡ m = cc in rw e
+numbered_once (Ok (Errors n)) (Ok (Errors m)) h = let e : n ≡ m = cc in rw e
+numbered_once (Ok (Schema n)) (Ok (Errors m)) h = cc
+numbered_once (Ok (Errors n)) (Ok (Schema m)) h = cc
+numbered_once (Ok (Schema n)) (Err b) h = cc
+numbered_once (Ok (Errors n)) (Err b) h = cc
+numbered_once (Err a) (Ok (Schema m)) h = cc
+numbered_once (Err a) (Ok (Errors m)) h = cc
+numbered_once (Err a) (Err b) h =
+    let (n, o) = same_refused h in
+    let r : a.refusal ≡ b.refusal = wire.same_refusal n in
+    ap (λ (x : Refusal). refused_of x a.offset) r ∙ ap (refused_of b.refusal) o
+
+refused_told : (r : Result Answer Refused) {n offset : ℕ} → numbered r ≡ Told.refused n offset
+    → (e : Refused) × (r ≡ Err e) × (number_of e.refusal ≡ n) × (e.offset ≡ offset)
+refused_told (Ok (Schema m)) h = absurd cc
+refused_told (Ok (Errors m)) h = absurd cc
+refused_told (Err e) h = let (n, o) = same_refused h in (e, refl, n, o)
+
+-- what the definition answers, the code answers
+module _ {table before after : Bytes} {r : Result Answer Refused} (p : Answers table before after r) where
+  pub refuses : {n offset : ℕ} → read_answer table (length before) ≡ reading.Answer.refusal n offset
+      → (e : Refused) × (r ≡ Err e) × (number_of e.refusal ≡ n) × (e.offset ≡ offset)
+  refuses h = refused_told r (p.answer ∙ ap told h)
+
+  pub reads_schema : {bs : Bytes} → read_answer table (length before) ≡ reading.Answer.schema bs → r ≡ Ok (Schema (length bs))
+  reads_schema h = numbered_once r (Ok (Schema _)) (p.answer ∙ ap told h)
+
+  pub reads_errors : {bs : Bytes} → read_answer table (length before) ≡ reading.Answer.errors bs → r ≡ Ok (Errors (length bs))
+  reads_errors h = numbered_once r (Ok (Errors _)) (p.answer ∙ ap told h)
 
 -- an answer that is no refusal is one to tokens
 some_tokens : (table : Bytes) (room : ℕ) → ((number offset : ℕ) → read_answer table room ≡ reading.Answer.refusal number offset → ⊥)
@@ -56,10 +101,10 @@ some_tokens table room n = go (decode table) refl
     go (tokens ts) e = (ts, e)
 
 schema≢refusal : {bs : Bytes} {n o : ℕ} → ◌≡◌ {A = reading.Answer} (reading.Answer.schema bs) (reading.Answer.refusal n o) → ⊥
-schema≢refusal h = let z : ◌≡◌ {A = ℕ} 0 1 = cc in omega arith
+schema≢refusal h = cc
 
 errors≢refusal : {bs : Bytes} {n o : ℕ} → ◌≡◌ {A = reading.Answer} (reading.Answer.errors bs) (reading.Answer.refusal n o) → ⊥
-errors≢refusal h = let z : ◌≡◌ {A = ℕ} 0 1 = cc in omega arith
+errors≢refusal h = cc
 
 -- what a success leaves in the buffer
 front : {bs before after : Bytes} {n : ℕ} → n ≡ length bs → after ≡ bs ++ drop (length bs) before → Front bs before after n
@@ -79,16 +124,16 @@ errors_fitted room (Outcome.errors es) bs h = go (leb (length (errors_bytes es))
     go : (b : Bool) → leb (length (errors_bytes es)) room ≡ b
         → (fs : List Error) × (◌≡◌ {A = Outcome} (Outcome.errors es) (Outcome.errors fs)) × (bs ≡ errors_bytes fs)
     go true e = let k = rw e at h in (es, refl, cc)
-    go false e = let k = rw e at h in let z : ◌≡◌ {A = ℕ} 0 1 = cc in absurd (omega arith)
+    go false e = let k = rw e at h in absurd cc
 errors_fitted room (Outcome.schema s) bs h = go (leb (length (encode_schema s)) room) refl
   where
     go : (b : Bool) → leb (length (encode_schema s)) room ≡ b
         → (fs : List Error) × (◌≡◌ {A = Outcome} (Outcome.schema s) (Outcome.errors fs)) × (bs ≡ errors_bytes fs)
-    go true e = let k = rw e at h in let z : ◌≡◌ {A = ℕ} 0 1 = cc in absurd (omega arith)
-    go false e = let k = rw e at h in let z : ◌≡◌ {A = ℕ} 0 1 = cc in absurd (omega arith)
+    go true e = let k = rw e at h in absurd cc
+    go false e = let k = rw e at h in absurd cc
 
 module _ {table before after : Bytes} where
-  pub schema_read : {n : ℕ} → Answers table before after (Schema n) → SchemaRead table before after n
+  pub schema_read : {n : ℕ} → Answers table before after (Ok (Schema n)) → SchemaRead table before after n
   schema_read p =
       let room = length before in
       let (bs, e, l) = told_schema (read_answer table room) (sym p.answer) in
@@ -96,7 +141,7 @@ module _ {table before after : Bytes} where
       let (tree, t, q) = table_sound table room ts bs d e in
       record { list = ts; decodes = d; tree = tree; derives = t; wrote = rw (← q) (front l (rw e at p.buffer)) }
 
-  pub errors_read : {n : ℕ} → Answers table before after (Errors n) → ErrorsRead table before after n
+  pub errors_read : {n : ℕ} → Answers table before after (Ok (Errors n)) → ErrorsRead table before after n
   errors_read p =
       let room = length before in
       let (bs, e, l) = told_errors (read_answer table room) (sym p.answer) in
@@ -112,10 +157,11 @@ module _ {table before after : Bytes} where
         wrote = rw (← b) (front l (rw e at p.buffer));
       }
 
-  pub refused_as : {n offset : ℕ} → Answers table before after (Refused n offset) → read_answer table (length before) ≡ reading.Answer.refusal n offset
+  pub refused_as : {e : Refused} → Answers table before after (Err e)
+      → read_answer table (length before) ≡ reading.Answer.refusal (number_of e.refusal) e.offset
   refused_as p = told_refusal (read_answer table (length before)) (sym p.answer)
 
-  pub refused_same : {n offset : ℕ} → Answers table before after (Refused n offset) → after ≡ before
+  pub refused_same : {e : Refused} → Answers table before after (Err e) → after ≡ before
   refused_same p = rw (refused_as p) at p.buffer
 
 same_refusal : {a b c d : ℕ} → ◌≡◌ {A = reading.Answer} (reading.Answer.refusal a b) (reading.Answer.refusal c d) → (a ≡ c) × (b ≡ d)
@@ -140,15 +186,27 @@ pub read_refusal : (table : Bytes) (room : ℕ) {n offset : ℕ} (ts : List Toke
     → (n ≡ 8) × (offset ≡ 0) × (room < length (bytes_of (answer_of (parse ts))))
 read_refusal table room ts d h = fitted_refusal room (parse ts) (sym (read_tokens table room d) ∙ h)
 
-pub read_number : {table before after : Bytes} {n offset : ℕ} → Answers table before after (Refused n offset) → (1 ≤ n) × (n ≤ 8)
-read_number {table} {before} {n = n} p = go (decode table) refl
+pub read_number : (table : Bytes) (room : ℕ) {n offset : ℕ} → read_answer table room ≡ reading.Answer.refusal n offset → (1 ≤ n) × (n ≤ 8)
+read_number table room {n} h = go (decode table) refl
   where
     go : (d : Decoded) → decode table ≡ d → (1 ≤ n) × (n ≤ 8)
     go (refused k o) e =
         let q = refused_number table e in
-        let z = same_refusal (sym (read_refused table (length before) e) ∙ refused_as p) in
+        let z = same_refusal (sym (read_refused table room e) ∙ h) in
         (omega (arith, z.0), omega (arith, z.0))
-    go (tokens ts) e = let q = (read_refusal table (length before) ts e (refused_as p)).0 in (omega arith, omega arith)
+    go (tokens ts) e = let q = (read_refusal table room ts e h).0 in (omega arith, omega arith)
+
+-- so the code can tell every answer
+pub some_answer : (table : Bytes) (room : ℕ) → (r : Result Answer Refused) × (numbered r ≡ told (read_answer table room))
+some_answer table room = go (read_answer table room) refl
+  where
+    go : (a : reading.Answer) → read_answer table room ≡ a → (r : Result Answer Refused) × (numbered r ≡ told (read_answer table room))
+    go (reading.Answer.schema bs) e = (Ok (Schema (length bs)), rw e)
+    go (reading.Answer.errors bs) e = (Ok (Errors (length bs)), rw e)
+    go (reading.Answer.refusal n offset) e =
+        let (l, m) = read_number table room e in
+        let (r, q) = refusal_of n l m in
+        (Err (record { refusal = r; offset = offset }), rw (e, q))
 
 -- Two derivations of a table's tokens are one.
 same_tokens : {ts us : List Token} → ◌≡◌ {A = Decoded} (tokens ts) (tokens us) → ts ≡ us

@@ -5,10 +5,11 @@ use mathlib.Core.List.{List, [], ◌∷◌}
 use native.Mathlib.Omega.{arith}
 use lib.ListN.{length}
 use Rattle.wire.specs.Bytes.{Bytes}
-use Rattle.wire.specs.Put.{Wrote}
-use Rattle.wire.proofs.Laws.{then}
+use Rattle.wire.specs.Puts.{Puts}
+use Rattle.wire.specs.declared.Writer.{Writer}
+use Rattle.wire.proofs.Puts.{then}
 use Rattle.token.specs.Token.{Token}
-use Rattle.token.specs.Places.{tok_at, tokens_from}
+use Rattle.token.specs.Places.{tokens_from}
 use Rattle.schema.specs.Encode.{encode_comment, encode_schema}
 use Rattle.grammar.specs.Tree.{y_import, All}
 use Rattle.grammar.specs.Meaning.{comment_of, schema_of}
@@ -17,7 +18,7 @@ use Rattle.grammar.specs.Reading.{parse_declarations, parse_end, parse_schema}
 use Rattle.grammar.proofs.Rules.{cons≢nil, both_nil}
 use Rattle.grammar.proofs.Eats.{each_keeps, import_eats}
 use Rattle.grammar.proofs.Imports.{imports_sound}
-use Rattle.parser.specs.Trees.{when}
+use Rattle.parser.specs.Trees.{token_there}
 use Rattle.parser.specs.Steps.{ahead}
 use Rattle.places.specs.Imports.{Room, NamedHere}
 use Rattle.places.specs.declared.Ordered.{Ordered}
@@ -58,10 +59,8 @@ module _ {t : Bytes} {imports : List ℕ} {order : Ordered} {items spare : List 
   pub declarations_room : Room (ahead t order.next) items spare
   declarations_room = record { list = omega (arith, less, h.room.list); work = omega (arith, less, h.room.work) }
 
-  pub schema_written : {o o₁ o₂ o₃ : Bytes} {at a b z : ℕ} → Wrote o at (encode_comment (comment_of (when order.comment (tok_at t 0)))) o₁ a
-      → Wrote o₁ a (imports_at t imports) o₂ b
-      → Wrote o₂ b (declarations_bytes (declarations_from t order.next).value) o₃ z
-      → Wrote o at (encode_schema (schema_of (parse_schema (tokens_from t 0)).value)) o₃ z
+  pub schema_put : {w w₁ w₂ w₃ : Writer} → Puts w (encode_comment (comment_of (token_there t order.comment))) w₁ → Puts w₁ (imports_at t imports) w₂
+      → Puts w₂ (declarations_bytes (declarations_from t order.next).value) w₃
+      → Puts w (encode_schema (schema_of (parse_schema (tokens_from t 0)).value)) w₃
   unfolding encode_schema
-  schema_written x y w =
-      rw h.orders.opening.read (then (then x (rw (orders_sorted h.orders (last_end t) none_told.0) at y)) (rw (← rest) at w))
+  schema_put x y z = rw h.orders.opening.read (then (then x (rw (orders_sorted h.orders (last_end t) none_told.0) at y)) (rw (← rest) at z))

@@ -1,8 +1,9 @@
--- What emitting promises of a part of the schema whose reading has no errors: the encoding of what it means is written, and the next cursor
+-- What emitting promises of a part of the schema whose reading has no errors: the encoding of what it means is put, and the next cursor
 -- stands before the tokens that the reading leaves.
 use Rattle.std.specs.Prelude.{ℕ, ◌≡◌, Bool, not, List, [], map, length}
 use Rattle.wire.specs.Bytes.{Bytes}
-use Rattle.wire.specs.Put.{Wrote}
+use Rattle.wire.specs.Puts.{Puts}
+use Rattle.wire.specs.declared.Writer.{Writer}
 use Rattle.token.specs.Kind.{k_right_curly}
 use Rattle.token.specs.Token.{Token}
 use Rattle.token.specs.Places.{tokens_from, Wf}
@@ -15,12 +16,11 @@ use Rattle.parser.specs.declared.Cursor.{Cursor}
 use Rattle.places.specs.Imports.{Room, Orders}
 use Rattle.places.specs.declared.Ordered.{Ordered}
 use Rattle.imports.specs.Imports.{last_end}
-use Rattle.emit.specs.declared.Emitted.{Emitted}
 
-pub record Emits {A : Type 0} (t o : Bytes) (at : ℕ) (encode : A → Bytes) (R : Reading A) (o' : Bytes) (r : Emitted) : Type 0 where
-  pub wrote : Wrote o at (encode R.value) o' r.out
-  pub rest : ahead t r.next ≡ R.rest
-  pub wf : Wf t r.next.at
+pub record Emits {A : Type 0} (t : Bytes) (w : Writer) (encode : A → Bytes) (R : Reading A) (w' : Writer) (c : Cursor) : Type 0 where
+  pub puts : Puts w (encode R.value) w'
+  pub rest : ahead t c ≡ R.rest
+  pub wf : Wf t c.at
 
 -- a cursor of a good table stands before these tokens
 pub record Before (t : Bytes) (ts : List Token) (c : Cursor) : Type 0 where

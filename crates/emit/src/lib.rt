@@ -2,95 +2,79 @@
 #![tactic(auto)]
 
 ghost use Rattle.std.specs.Prelude.{◌≡◌, ltb};
-ghost use Rattle.wire.specs.Put.{Wrote};
+ghost use Rattle.wire.specs.Puts.{Puts};
 ghost use Rattle.token.specs.Places.{tokens_from, Wf};
 ghost use Rattle.schema.specs.Encode.{indices, encode_deleted, encode_schema};
 ghost use Rattle.grammar.specs.Sort.{sort_by};
 ghost use Rattle.grammar.specs.Meaning.{schema_of};
-ghost use Rattle.grammar.specs.Reading.{skip, parse_deleted, parse_schema};
+ghost use Rattle.grammar.specs.Reading.{is_end, skip, parse_deleted, parse_schema};
 ghost use Rattle.parser.specs.Steps.{ahead};
 ghost use Rattle.places.specs.Imports.{Room};
 ghost use Rattle.imports.specs.Imports.{Clear};
 ghost use Rattle.emit.specs.Emits.{Emits, Before, fields_from, fields_bytes, declaration_from, declarations_from, declarations_bytes, is_other, Readable};
 ghost use Rattle.emit.specs.Indices.{Sortable, deleted_bytes};
 
-use parser::{Cursor, FieldStep, HeadStep, kind_or_end, next};
+use parser::{Cursor, is_done, is_next, next, peek};
 use places::Ordered;
-use sorted::Key;
-use token::kind;
+use records::NOWHERE;
+use schema::kind::Kind as RecordKind;
+use sorted::Numbers;
+use token::kind::Kind;
+use wire::Writer;
 
-// What is written so far ends at `out`; reading goes on at `next`.
-#[derive(Clone, Copy, Drop)]
-pub struct Emitted {
-    pub out: usize,
-    pub next: Cursor,
+// Whether the fields end at c.
+fn is_end(t: &[u8], c: Cursor) -> bool
+    requires { Wf t.now c.at }
+    ensures { result ≡ is_end (ahead t.now c) }
+{
+    matches!(peek(t, c), None | Some(Kind::Deleted | Kind::RightCurly))
 }
 
-fn put_fields(out: &mut [u8], o: usize, t: &[u8], from: Cursor) -> Emitted
+fn put_fields(w: &mut Writer, t: &[u8], from: Cursor) -> Cursor
     requires { Clear t.now from (fields_from t.now from) }
-    ensures { Emits t.now out.old o fields_bytes (fields_from t.now from) out.new result }
+    ensures { Emits t.now w.old fields_bytes (fields_from t.now from) w.new result }
 {
-    let mut a = o;
     let mut c = from;
-    loop {
-        let kind = kind_or_end(t, c);
-        if (kind == 0) | (kind == kind::DELETED) | (kind == kind::RIGHT_CURLY) {
-            return Emitted { out: a, next: c };
-        }
-        let FieldStep::Passed(f, after) = parser::parse_field(t, c) else {
-            return Emitted { out: a, next: c };
+    while !is_end(t, c) {
+        let Ok((f, after)) = parser::parse_field(t, c) else {
+            unreachable!();
         };
-        a = records::put_field(out, a, t, f);
+        records::put_field(w, t, f);
         c = after;
     }
+    c
 }
 
-fn put_numbers(out: &mut [u8], o: usize, items: &[u64]) -> usize
-    ensures { Wrote out.old o (indices items.now) out.new result }
+fn put_numbers(w: &mut Writer, items: &[u64])
+    ensures { Puts w.old (indices items.now) w.new }
 {
-    let mut a = o;
-    let mut i: usize = 0;
-    while i < items.len() {
-        a = wire::put_u64(out, a, items[i]);
-        i += 1;
+    for n in items {
+        w.put_u64(*n);
     }
-    a
 }
 
 // These numbers, ascending.
-fn put_indices(out: &mut [u8], o: usize, t: &[u8], items: &mut [u64], spare: &mut [u64]) -> usize
+fn put_indices(w: &mut Writer, items: &mut [u64], spare: &mut [u64])
     requires { Sortable items.old spare.old }
-    ensures { Wrote out.old o (encode_deleted (sort_by ltb items.old)) out.new result }
+    ensures { Puts w.old (encode_deleted (sort_by ltb items.old)) w.new }
 {
-    let n = items.len();
-    if n == 0 {
-        return o;
+    if items.is_empty() {
+        return;
     }
-    sorted::sort(t, Key::Number, items, spare);
-    let size = 12 + 8 * n;
-    let a = wire::put_head(out, o, size as u16, 106, 0, 0);
-    put_numbers(out, a, items)
+    sorted::sort(&Numbers, items, spare);
+    records::put_record_head(w, schema::kind::Kind::Deleted, NOWHERE, 8 * items.len());
+    put_numbers(w, items);
 }
 
-fn put_deleted(
-    out: &mut [u8],
-    o: usize,
-    t: &[u8],
-    c: Cursor,
-    items: &mut [u64],
-    spare: &mut [u64],
-) -> Emitted
+fn put_deleted(w: &mut Writer, t: &[u8], c: Cursor, items: &mut [u64], spare: &mut [u64])
     requires { (Wf t.now c.at) × (Room (ahead t.now c) items.old spare.old) }
-    ensures { Emits t.now out.old o deleted_bytes (parse_deleted (ahead t.now c)) out.new result }
+    ensures { Puts w.old (deleted_bytes (parse_deleted (ahead t.now c)).value) w.new }
 {
-    if kind_or_end(t, c) != kind::DELETED {
-        return Emitted { out: o, next: c };
+    if !is_next(t, c, Kind::Deleted) {
+        return;
     }
-    let i = places::collect_numbers(t, next(t, c), items);
-    let n = i.count;
-    let a = put_indices(out, o, t, &mut items[..n], spare);
-    let past = i.next;
-    Emitted { out: a, next: past }
+    let n = places::collect_numbers(t, next(t, c), items).count;
+    put_indices(w, &mut items[..n], spare);
 }
 
 // The first `}` from `from` on, or the end.
@@ -100,77 +84,57 @@ fn find_right(t: &[u8], from: Cursor) -> Cursor
 {
     let mut c = from;
     loop {
-        let kind = kind_or_end(t, c);
-        if kind == 0 {
-            return c;
+        match peek(t, c) {
+            None | Some(Kind::RightCurly) => return c,
+            Some(_) => c = next(t, c),
         }
-        if kind == kind::RIGHT_CURLY {
-            return c;
-        }
-        c = next(t, c);
     }
 }
 
 // A declaration's own record stands before its fields and has the range up to its `}`, which is the first one from its body on.
 fn put_declaration(
-    out: &mut [u8],
-    o: usize,
+    w: &mut Writer,
     t: &[u8],
     c: Cursor,
     items: &mut [u64],
     spare: &mut [u64],
-) -> Emitted
+) -> Cursor
     requires { (Clear t.now c (declaration_from t.now c)) × (Room (ahead t.now c) items.old spare.old) }
-    ensures { Emits t.now out.old o declarations_bytes (declaration_from t.now c) out.new result }
+    ensures { Emits t.now w.old declarations_bytes (declaration_from t.now c) w.new result }
 {
-    let HeadStep::Passed(h, body) = parser::parse_head(t, c) else {
-        return Emitted { out: o, next: c };
+    let Ok((h, body)) = parser::parse_head(t, c) else {
+        unreachable!();
     };
     let right = find_right(t, body);
-    let a = records::put_head(out, o, t, h, right.at);
-    let f = put_fields(out, a, t, body);
-    let d = put_deleted(out, f.out, t, f.next, items, spare);
-    Emitted {
-        out: d.out,
-        next: next(t, right),
-    }
+    records::put_head(w, t, h, right.at);
+    let past = put_fields(w, t, body);
+    put_deleted(w, t, past, items, spare);
+    next(t, right)
 }
 
-fn put_declarations(
-    out: &mut [u8],
-    o: usize,
-    t: &[u8],
-    from: Cursor,
-    items: &mut [u64],
-    spare: &mut [u64],
-) -> usize
+fn put_declarations(w: &mut Writer, t: &[u8], from: Cursor, items: &mut [u64], spare: &mut [u64])
     requires { (Clear t.now from (declarations_from t.now from)) × (Room (ahead t.now from) items.old spare.old) }
-    ensures { Wrote out.old o (declarations_bytes (declarations_from t.now from).value) out.new result }
+    ensures { Puts w.old (declarations_bytes (declarations_from t.now from).value) w.new }
 {
-    let mut a = o;
     let mut c = from;
-    while kind_or_end(t, c) != 0 {
-        let d = put_declaration(out, a, t, c, items, spare);
-        a = d.out;
-        c = d.next;
+    while !is_done(t, c) {
+        c = put_declaration(w, t, c, items, spare);
     }
-    a
 }
 
-// The schema table of t, whose imports are given in order; `items` and `spare` are lent for the work.
+/// The schema table of t, whose imports are given in order; `items` and `spare` are lent for the work, as two lists since `sorted::sort` takes them so.
 pub fn emit(
-    out: &mut [u8],
-    o: usize,
+    w: &mut Writer,
     t: &[u8],
     imports: &[u64],
     order: Ordered,
     items: &mut [u64],
     spare: &mut [u64],
-) -> usize
+)
     requires { Readable t.now imports.now order items.old spare.old }
-    ensures { Wrote out.old o (encode_schema (schema_of (parse_schema (tokens_from t.now 0)).value)) out.new result }
+    ensures { Puts w.old (encode_schema (schema_of (parse_schema (tokens_from t.now 0)).value)) w.new }
 {
-    let a = records::put_opening(out, o, t, order.comment);
-    let b = imports::put_imports(out, a, t, imports);
-    put_declarations(out, b, t, order.next, items, spare)
+    records::put_opening(w, t, order.comment);
+    imports::put_imports(w, t, imports);
+    put_declarations(w, t, order.next, items, spare);
 }

@@ -1,56 +1,40 @@
--- A form is filled byte by byte: `out` is written, zeros stand behind it, and what is left completes the form.
-use mathlib.Core.Path.{◌≡◌, refl, ap, sym, ◌∙◌}
-use mathlib.Core.Bool.{Bool, true, false}
-use mathlib.Core.List.{[], ◌∷◌, ◌++◌, append_assoc, append-nil}
-use Prim.Native.Nat.{ℕ, suc, ◌+◌, ◌-◌, ◌<◌, ◌≤◌}
+-- A form that is put into an array of 256 zeros fills the front of it: there is always room, and zeros stand behind.
+use mathlib.Core.Path.{◌≡◌, ap, sym, ◌∙◌}
+use mathlib.Core.List.{◌++◌}
+use Prim.Native.Nat.{ℕ, ◌+◌, ◌-◌, ◌≤◌}
+use native.Mathlib.Nat.{zero-add}
 use native.Mathlib.Omega.{arith}
-use lib.ListN.{length, set, take, drop, replicate, length-append}
-use lib.Seq.{set-append_seam, take-append_seam}
+use lib.ListN.{length, take, drop, replicate, length-append}
+use lib.Seq.{take-append_seam}
+use Rattle.std.proofs.lemmas.List.{drop-replicate}
 use Rattle.wire.specs.Bytes.{Bytes}
-use Rattle.identifier.specs.Words.{words_of}
-use Rattle.identifier.specs.Forms.{joined, IsForm}
-use Rattle.identifier.specs.Left.{first_by, later_by, left_of, Follows}
-use Rattle.identifier.specs.declared.Next.{Next}
-use Rattle.identifier.proofs.Left.{ends, begins}
-use Rattle.identifier.proofs.Length.{form_short}
+use Rattle.wire.specs.Put.{Wrote}
+use Rattle.wire.specs.Puts.{Puts}
+use Rattle.wire.specs.declared.Writer.{Writer}
+use Rattle.wire.proofs.Laws.{adv_is, over_fits}
+use Rattle.identifier.specs.Forms.{IsForm}
+use Rattle.identifier.specs.Left.{form_of}
+use Rattle.identifier.specs.declared.form_bytes.Case.{Case}
+use Rattle.identifier.proofs.Length.{case_short}
 
-put : (out : Bytes) (v : ℕ) → length out < 256
-    → set (out ++ replicate (256 - length out) 0) (length out) v ≡ (out ++ (v ∷ [])) ++ replicate (256 - length (out ++ (v ∷ []))) 0
-put out v h =
-    let e : 256 - length out ≡ suc (255 - length out) = omega arith in
-    let f : 256 - length (out ++ (v ∷ [])) ≡ 255 - length out = rw length-append (omega arith) in
-    rw (e, f, set-append_seam out 0 (replicate (255 - length out) 0) v, append_assoc)
+module _ (case : Case) (name : Bytes) (short : length name ≤ 128) where
+  few : length (form_of case name) ≤ 255
+  few = omega (arith, case_short case name)
 
-pub record Filled (up bar : Bool) (name bytes : Bytes) (len at state : ℕ) : Type 0 where
-  pub out : Bytes
-  pub size : length out ≡ len
-  pub small : len ≤ 255
-  pub held : bytes ≡ out ++ replicate (256 - length out) 0
-  pub left : out ++ left_of (first_by up) (later_by bar) state (drop at name) ≡ joined (first_by up) (later_by bar) (words_of name)
+  behind : drop {A = ℕ} (0 + length (form_of case name)) (replicate 256 0) ≡ replicate (256 - length (form_of case name)) 0
+  behind = rw zero-add (drop-replicate (length (form_of case name)) 256 0)
 
-pub empty : (up bar : Bool) (name : Bytes) → Filled up bar name (replicate 256 0) 0 0 0
-empty up bar name = record { out = []; size = refl; small = omega arith; held = refl; left = refl }
-
-module _ {up bar : Bool} {name bytes : Bytes} {len at state : ℕ} (short : length name ≤ 128) (g : Filled up bar name bytes len at state) {r : Next}
-    (f : Follows up bar name at state r) where
-  -- there is room for the next byte
-  room : r.more ≡ true → len < 255
-  room e = omega (arith, form_short up bar name, simp length-append at (ap length (rw (begins f e) at g.left)), g.size)
-
-  pub more : r.more ≡ true → Filled up bar name (set bytes len r.byte) (len + 1) r.at r.state
-  more e =
+  pub formed : {w w' : Writer} → w.out.now ≡ replicate 256 0 → w.at ≡ 0 → Puts w (form_of case name) w' → {bytes : Bytes} → bytes ≡ w'.out.now
+      → IsForm bytes w'.at (form_of case name)
+  formed {w' = w'} zeros front put same =
+      let form = form_of case name in
+      let whole : Wrote (replicate 256 0) 0 form w'.out.now w'.at = rw (zeros, front) at put.wrote in
+      let place = whole.place ∙ adv_is form 0 (omega arith) in
       record {
-        out = g.out ++ (r.byte ∷ []);
-        size = rw length-append (omega (arith, g.size));
-        small = omega (arith, room e);
-        held = rw (g.held, ← g.size) (put g.out r.byte (omega (arith, g.size, room e)));
-        left = rw (f.tail, append_assoc, ← begins f e) g.left;
+        size = omega (arith, place, few);
+        filled = same ∙ whole.bytes ∙ over_fits form (replicate 256 0) 0 (omega (arith, few)) (omega arith) ∙ ap (λ l. form ++ l) behind;
+        fits = omega (arith, place, few);
       }
-
-  pub whole : r.more ≡ false → IsForm bytes len (joined (first_by up) (later_by bar) (words_of name))
-  whole e =
-      let done : g.out ≡ joined (first_by up) (later_by bar) (words_of name) = sym (append-nil _) ∙ rw (ends f e) at g.left in
-      record { size = sym g.size ∙ ap length done; filled = g.held ∙ rw done; fits = g.small }
 
 -- what a caller has of a form: its bytes are the front of the array
 module _ {bytes : Bytes} {len : ℕ} {form : Bytes} (h : IsForm bytes len form) where

@@ -9,8 +9,10 @@ use Rattle.wire.specs.Bytes.{Bytes}
 use Rattle.identifier.specs.Byte.{is_upper, is_break}
 use Rattle.identifier.specs.Name.{all}
 use Rattle.identifier.specs.Words.{words_of}
-use Rattle.identifier.specs.Forms.{low, bar_low, joined, later_words, snake_of}
-use Rattle.identifier.specs.Left.{in_word, first_by, later_by}
+use Rattle.identifier.specs.Forms.{low, up, bar_low, joined, later_words, snake_of, camel_of, pascal_of}
+use Rattle.identifier.specs.Left.{in_word, form_of}
+use Rattle.identifier.specs.declared.form_bytes.Case.{Case}
+use Rattle.identifier.specs.declared.form_bytes.Case.TheVariants.{Snake, Camel, Pascal}
 use Rattle.identifier.proofs.Bytes.{upper_no_break}
 use Rattle.identifier.proofs.Words.{words_break, joined_begin, later_begin_lem, in_break, in_capital, in_plain}
 
@@ -40,20 +42,28 @@ module _ (g : ℕ → Bytes) (few : (b : ℕ) → length (g b) ≤ 2) where
   joined_short f one [] = omega arith
   joined_short f one (b ∷ bs) = go (is_break b) refl (joined_short f one bs)
     where
-      go : (x : Bool) → is_break b ≡ x → length (joined f g (words_of bs)) ≤ 2 * length bs - 1 → length (joined f g (words_of (b ∷ bs))) ≤ 2 * length (b ∷ bs) - 1
+      go : (x : Bool) → is_break b ≡ x → length (joined f g (words_of bs)) ≤ 2 * length bs - 1
+          → length (joined f g (words_of (b ∷ bs))) ≤ 2 * length (b ∷ bs) - 1
       go true e k = rw (words_break b bs e) (omega arith)
       go false e k = rw (joined_begin b bs g f e) (rw length-append (omega (arith, (short bs).inside, one b)))
 
-pub form_short : (up bar : Bool) (name : Bytes) → length (joined (first_by up) (later_by bar) (words_of name)) ≤ 2 * length name - 1
-form_short up bar = joined_short (later_by bar) (few bar) (first_by up) (one up)
-  where
-    one : (u : Bool) (b : ℕ) → length (first_by u b) ≤ 1
-    one true b = omega arith
-    one false b = omega arith
+pub case_short : (case : Case) (name : Bytes) → length (form_of case name) ≤ 2 * length name - 1
+case_short Snake = joined_short bar_low (λ b. omega arith) low (λ b. omega arith)
+case_short Camel = joined_short up (λ b. omega arith) low (λ b. omega arith)
+case_short Pascal = joined_short up (λ b. omega arith) up (λ b. omega arith)
 
-    few : (r : Bool) (b : ℕ) → length (later_by r b) ≤ 2
-    few true b = omega arith
-    few false b = omega arith
+-- what a caller cites, who has no name for a case
+pub snake_short : (name : Bytes) → length (snake_of name) ≤ 2 * length name - 1
+unfolding snake_of
+snake_short = case_short Snake
+
+pub camel_short : (name : Bytes) → length (camel_of name) ≤ 2 * length name - 1
+unfolding camel_of
+camel_short = case_short Camel
+
+pub pascal_short : (name : Bytes) → length (pascal_of name) ≤ 2 * length name - 1
+unfolding pascal_of
+pascal_short = case_short Pascal
 
 -- a name of capitals: each begins a word
 in_capitals : (bs : Bytes) → all is_upper bs ≡ true → length (in_word bar_low bs) ≡ 2 * length bs

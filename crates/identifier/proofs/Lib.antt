@@ -4,7 +4,6 @@ pub mod Bytes
 pub mod Good
 pub mod Words
 pub mod Left
-pub mod Added
 pub mod Length
 pub mod Filled
 pub mod Level

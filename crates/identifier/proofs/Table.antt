@@ -1,4 +1,5 @@
--- A table's rule at each of its entries; and each test of a byte as a comparison of its class, by one computed test of all 256.
+-- Each table holds over all its entries what its rule gives, by computing them; so at each byte. And each test of a byte is a comparison of its
+-- class, by one computed test of all 256.
 use mathlib.Core.Path.{◌≡◌, ◌∙◌, refl, sym, ap}
 use mathlib.Core.Bool.{Bool, true, ◌||◌, ◌&&◌, not}
 use mathlib.Core.List.{List}
@@ -7,8 +8,9 @@ use native.Mathlib.Nat.{add-zero, zero-add, add-suc, suc-add, le_of_suc-le-suc, 
 use lib.Dec.{ltb, leb, eqb}
 use lib.ListN.{get_or}
 use Rattle.wire.specs.Pick.{pick}
-use Rattle.identifier.specs.Byte.{is_upper, is_letter, is_digit, is_break, is_printable, class_of}
+use Rattle.identifier.specs.Byte.{is_upper, is_letter, is_digit, is_break, is_printable, class_of, lower_of, upper_of}
 use Rattle.identifier.specs.Table.{entries, table}
+use Rattle.identifier.specs.declared.tables.TheConstants.{CLASS, LOWER, UPPER}
 
 module _ {A : Type 0} (d : A) (f : ℕ → A) where
   entry : (n b k : ℕ) → k < n → get_or (entries f b n) k d ≡ f (b + k)
@@ -22,6 +24,29 @@ module _ {A : Type 0} (d : A) (f : ℕ → A) where
 pub table_at : (rule : ℕ → ℕ) (b : ℕ) → b < 256 → get_or (table rule) b 0 ≡ rule b
 unfolding table
 table_at = entry_at 0
+
+-- the rule of each table, over all entries
+pub classes : CLASS ≡ table class_of
+unfolding table class_of pick
+classes = refl
+
+pub lowers : LOWER ≡ table lower_of
+unfolding table lower_of pick
+lowers = refl
+
+pub uppers : UPPER ≡ table upper_of
+unfolding table upper_of pick
+uppers = refl
+
+-- what a function reads of them
+pub class_at : (b : ℕ) → b < 256 → get_or CLASS b 0 ≡ class_of b
+class_at b h = ap (λ (l : List ℕ). get_or l b 0) classes ∙ table_at class_of b h
+
+pub lower_at : (b : ℕ) → b < 256 → get_or LOWER b 0 ≡ lower_of b
+lower_at b h = ap (λ (l : List ℕ). get_or l b 0) lowers ∙ table_at lower_of b h
+
+pub upper_at : (b : ℕ) → b < 256 → get_or UPPER b 0 ≡ upper_of b
+upper_at b h = ap (λ (l : List ℕ). get_or l b 0) uppers ∙ table_at upper_of b h
 
 -- two tests that agree over all entries agree at each
 pub agree : (p q : ℕ → Bool) → entries p 0 256 ≡ entries q 0 256 → (b : ℕ) → b < 256 → p b ≡ q b

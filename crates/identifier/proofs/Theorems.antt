@@ -15,9 +15,9 @@ use Rattle.identifier.specs.Forms.{snake_of, camel_of, pascal_of}
 use Rattle.identifier.specs.Order.{name_order, is_before, same_name}
 use Rattle.identifier.specs.Join.{join_of}
 use Rattle.identifier.specs.Survive.{survives, later_begin}
-use Rattle.identifier.specs.declared.Order.TheVariants.{Less, Equal}
+use Rattle.std.specs.declared.cmp.Ordering.TheVariants.{Less, Equal}
 use Rattle.identifier.proofs.Words.{words_join}
-use Rattle.identifier.proofs.Length.{form_short, capitals_long}
+use Rattle.identifier.proofs.Length.{snake_short, camel_short, pascal_short, capitals_long}
 use Rattle.identifier.proofs.Total.{flip, order_refl, order_flip, order_zero, order_trans}
 use Rattle.identifier.proofs.Survival.{survives_exactly}
 
@@ -41,9 +41,7 @@ joining = words_join
 
 -- 256 bytes hold every form of a name, and a name of 128 capitals comes within one of them
 pub forms_fit : (name : Bytes) → length name ≤ 128 → (length (snake_of name) ≤ 255) × (length (camel_of name) ≤ 255) × (length (pascal_of name) ≤ 255)
-unfolding snake_of camel_of pascal_of
-forms_fit name h =
-    (omega (arith, form_short false true name), omega (arith, form_short false false name), omega (arith, form_short true false name))
+forms_fit name h = (omega (arith, snake_short name), omega (arith, camel_short name), omega (arith, pascal_short name))
 
 pub capitals : (name : Bytes) → all is_upper name ≡ true → length name ≡ 128 → length (snake_of name) ≡ 255
 capitals name e h = omega (arith, capitals_long name e)

@@ -1,12 +1,10 @@
-// Byte tables: each byte's class and its lower and upper form. A caller makes a table once and lends it to the functions that read it. Two tests
-// of a byte need none.
+// Byte tables: each byte's class and its lower and upper form, and the tests of a byte.
 ghost use Rattle.std.specs.Prelude.{◌≡◌};
 ghost use Rattle.identifier.specs.Byte.{is_printable, is_break, is_upper, is_plain, class_of, lower_of, upper_of};
-ghost use Rattle.identifier.specs.Table.{table};
 ghost use Rattle.identifier.specs.Name.{is_name};
 
 // 0 not printable, 1 the quote, 2 space, 3 any other printable byte, 4 `-`, 5 a digit, 6 `_`, 7 a small letter, 8 a capital
-const CLASS: [u8; 256] = *b"\
+static CLASS: [u8; 256] = *b"\
     \x00\x00\x00\x00\x00\x00\x00\x00\x00\x00\x00\x00\x00\x00\x00\x00\
     \x00\x00\x00\x00\x00\x00\x00\x00\x00\x00\x00\x00\x00\x00\x00\x00\
     \x02\x03\x03\x03\x03\x03\x03\x01\x03\x03\x03\x03\x03\x04\x03\x03\
@@ -24,7 +22,7 @@ const CLASS: [u8; 256] = *b"\
     \x00\x00\x00\x00\x00\x00\x00\x00\x00\x00\x00\x00\x00\x00\x00\x00\
     \x00\x00\x00\x00\x00\x00\x00\x00\x00\x00\x00\x00\x00\x00\x00\x00";
 
-const LOWER: [u8; 256] = *b"\
+static LOWER: [u8; 256] = *b"\
     \x00\x01\x02\x03\x04\x05\x06\x07\x08\x09\x0a\x0b\x0c\x0d\x0e\x0f\
     \x10\x11\x12\x13\x14\x15\x16\x17\x18\x19\x1a\x1b\x1c\x1d\x1e\x1f\
     \x20!\"#$%&'()*+,-./\
@@ -42,7 +40,7 @@ const LOWER: [u8; 256] = *b"\
     \xe0\xe1\xe2\xe3\xe4\xe5\xe6\xe7\xe8\xe9\xea\xeb\xec\xed\xee\xef\
     \xf0\xf1\xf2\xf3\xf4\xf5\xf6\xf7\xf8\xf9\xfa\xfb\xfc\xfd\xfe\xff";
 
-const UPPER: [u8; 256] = *b"\
+static UPPER: [u8; 256] = *b"\
     \x00\x01\x02\x03\x04\x05\x06\x07\x08\x09\x0a\x0b\x0c\x0d\x0e\x0f\
     \x10\x11\x12\x13\x14\x15\x16\x17\x18\x19\x1a\x1b\x1c\x1d\x1e\x1f\
     \x20!\"#$%&'()*+,-./\
@@ -60,99 +58,54 @@ const UPPER: [u8; 256] = *b"\
     \xe0\xe1\xe2\xe3\xe4\xe5\xe6\xe7\xe8\xe9\xea\xeb\xec\xed\xee\xef\
     \xf0\xf1\xf2\xf3\xf4\xf5\xf6\xf7\xf8\xf9\xfa\xfb\xfc\xfd\xfe\xff";
 
-pub fn class_table() -> [u8; 256]
-    ensures { result ≡ table class_of }
-{
-    CLASS
-}
-
-pub fn lower_table() -> [u8; 256]
-    ensures { result ≡ table lower_of }
-{
-    LOWER
-}
-
-pub fn upper_table() -> [u8; 256]
-    ensures { result ≡ table upper_of }
-{
-    UPPER
-}
-
-pub fn class_in(class: &[u8; 256], b: u8) -> u8
-    requires { class.now ≡ table class_of }
+/// A byte's class, a number and no enum: the classes rise, so that each rule on a payload's bytes is one comparison.
+pub fn class_of(b: u8) -> u8
     ensures { result ≡ class_of b }
 {
-    class[b as usize]
+    CLASS[b as usize]
 }
 
-pub(crate) fn lower_in(lower: &[u8; 256], b: u8) -> u8
-    requires { lower.now ≡ table lower_of }
+pub(crate) fn lower_of(b: u8) -> u8
     ensures { result ≡ lower_of b }
 {
-    lower[b as usize]
+    LOWER[b as usize]
 }
 
-pub(crate) fn upper_in(upper: &[u8; 256], b: u8) -> u8
-    requires { upper.now ≡ table upper_of }
+pub(crate) fn upper_of(b: u8) -> u8
     ensures { result ≡ upper_of b }
 {
-    upper[b as usize]
+    UPPER[b as usize]
 }
 
-fn is_printable(class: &[u8; 256], b: u8) -> bool
-    requires { class.now ≡ table class_of }
+fn is_printable(b: u8) -> bool
     ensures { result ≡ is_printable b }
 {
-    0 < class_in(class, b)
+    0 < class_of(b)
 }
 
-pub(crate) fn is_break(class: &[u8; 256], b: u8) -> bool
-    requires { class.now ≡ table class_of }
-    ensures { result ≡ is_break b }
-{
-    let k = class_in(class, b);
-    (k == 4) | (k == 6)
-}
-
-pub(crate) fn is_upper(class: &[u8; 256], b: u8) -> bool
-    requires { class.now ≡ table class_of }
+pub(crate) fn is_upper(b: u8) -> bool
     ensures { result ≡ is_upper b }
 {
-    class_in(class, b) == 8
+    class_of(b) == 8
 }
 
 // `_` and `-`
-pub(crate) fn breaks(b: u8) -> bool
+pub(crate) fn is_break(b: u8) -> bool
     ensures { result ≡ is_break b }
 {
-    (b == b'_') | (b == b'-')
+    matches!(b, b'_' | b'-')
 }
 
 // Whether a byte stands in a snake form as it is: a small letter or a digit.
 pub(crate) fn is_plain(b: u8) -> bool
     ensures { result ≡ is_plain b }
 {
-    ((b'a' <= b) & (b <= b'z')) | ((b'0' <= b) & (b <= b'9'))
+    matches!(b, b'a'..=b'z' | b'0'..=b'9')
 }
 
-// Whether these are 1 to 128 printable bytes.
-pub fn is_name(class: &[u8; 256], name: &[u8]) -> bool
-    requires { class.now ≡ table class_of }
+/// Whether these are 1 to 128 printable bytes.
+pub fn is_name(name: &[u8]) -> bool
     ensures { result ≡ is_name name.now }
 {
-    if name.len() < 1 {
-        return false;
-    }
-    if 128 < name.len() {
-        return false;
-    }
-    let mut i: usize = 0;
-    while i < name.len() {
-        if is_printable(class, name[i]) {
-            i += 1;
-        } else {
-            return false;
-        }
-    }
-    true
+    (1..=128).contains(&name.len()) && name.iter().all(|b| is_printable(*b))
 }

@@ -7,11 +7,13 @@ use native.Mathlib.Omega.{arith}
 use native.Mathlib.Numerals.{add-one}
 use lib.ListN.{length, get_or, drop, drop_of_length-le}
 use lib.Seq.{drop-cons}
+use Rattle.std.specs.Prelude.{is_some}
 use Rattle.wire.specs.Bytes.{Bytes}
 use Rattle.wire.specs.Pick.{pick}
-use Rattle.wire.specs.Put.{Wrote}
+use Rattle.wire.specs.Puts.{Puts}
 use Rattle.wire.specs.Record.{record_bytes}
-use Rattle.wire.proofs.Laws.{Rest, rest_step, rest_none, wrote_length}
+use Rattle.wire.specs.declared.Writer.{Writer}
+use Rattle.wire.proofs.Puts.{Rest, rest_step, rest_none}
 use Rattle.stem.proofs.Laws.{either_name}
 use Rattle.token.specs.Token.{Token}
 use Rattle.token.specs.Payload.{is_payload}
@@ -23,12 +25,10 @@ use Rattle.schema.proofs.Payloads.{path_short}
 use Rattle.grammar.specs.Tree.{IfAny, WfAlias, WfImport}
 use Rattle.grammar.specs.Meaning.{alias_of, found_name}
 use Rattle.grammar.specs.Error.{kind_at}
-use Rattle.grammar.specs.Reading.{fail, parse_import}
-use Rattle.grammar.proofs.Rules.{fail≢ok}
 use Rattle.grammar.proofs.Imports.{import_sound}
 use Rattle.grammar.proofs.Stems.{stem_short}
 use Rattle.parser.specs.Trees as places
-use Rattle.parser.specs.Steps.{past, Stands, Reads, ImportPassed}
+use Rattle.parser.specs.Steps.{Stands, ImportPassed}
 use Rattle.parser.specs.declared.Cursor.{Cursor}
 use Rattle.parser.specs.declared.ImportPlaces.{ImportPlaces}
 use Rattle.parser.proofs.Laws.{kind_there}
@@ -52,9 +52,6 @@ module _ {t : Bytes} {x at : ℕ} (e : at ≡ place_of x) (w : NamedHere t x) wh
   pub due : (Wf t at) × (0 < kind_at (tokens_from t at))
   due = let s = here.token in (s.0, omega (arith, kind_there t at s.1, rw (← e) at w.keyword))
 
-  pub unbroken : {number : ℕ} {d : Cursor} → Reads t (past t (record { at = at })) (parse_import (tok_at t at)) (fail number) d → ⊥
-  unbroken r = fail≢ok (sym r.gives ∙ here.read)
-
   module _ {i : ImportPlaces} {after : Cursor} (p : ImportPassed t (record { at = at }) i after) where
     -- the tree at its place is the one that was read there
     tree_is : import_at t (place_of x) ≡ places.import_at t i
@@ -72,26 +69,24 @@ module _ {t : Bytes} {x at : ℕ} (e : at ≡ place_of x) (w : NamedHere t x) wh
         let path = (tok_at t i.path).payload in
         rw tree_is
         (either_name (λ n. length n ≤ 128) path (alias_of (places.import_at t i).alias) (omega (arith, stem_short path, path_fits))
-        (alias_short (tok_at t (next_at t i.path)) i.aliased p.stands.last wf.alias))
+        (alias_short (tok_at t (next_at t i.path)) (is_some i.alias) p.stands.last wf.alias))
 
     module _ {name path : Bytes} (n : name ≡ found_name (import_at t (place_of x))) (h : path ≡ (tok_at t i.path).payload) where
       pub fits : length name + length path < 65522
       fits = rw (n, h) (omega (arith, name_fits, path_fits))
 
-      pub import_is : record_bytes s_import (tok_at t at).start (tok_at t i.last).end (sized name ++ path) ≡ encode_import (meaning_at t x)
+      pub import_is : record_bytes s_import (tok_at t at).start (tok_at t (places.last_place i)).end (sized name ++ path) ≡ encode_import (meaning_at t x)
       unfolding pick
       import_is = rw (n, h, w.named) (rw (tree_is, p.last, p.first))
 
--- Writing a list, one element after the other: what is left of it is still to be written.
-pub record Writing (bytes : List ℕ → Bytes) (items : List ℕ) (o₀ : Bytes) (a₀ : ℕ) (o : Bytes) (a i : ℕ) : Type 0 where
-  pub left : Rest o a (bytes (drop i items)) o₀ a₀ (bytes items)
-  pub size : length o ≡ length o₀
+-- Putting a list, one element after the other: what is left of it is still to put.
+pub record Putting (bytes : List ℕ → Bytes) (items : List ℕ) (w₀ w : Writer) (i : ℕ) : Type 0 where
+  pub left : Rest w (bytes (drop i items)) w₀ (bytes items)
 
-module _ {bytes : List ℕ → Bytes} {items : List ℕ} {o₀ : Bytes} {a₀ : ℕ} {o : Bytes} {a i : ℕ} (s : Writing bytes items o₀ a₀ o a i) where
-  pub wrote_one : i < length items → {one o' : Bytes} {r : ℕ} → bytes (get_or items i 0 ∷ drop (suc i) items) ≡ one ++ bytes (drop (suc i) items)
-      → Wrote o a one o' r
-      → Writing bytes items o₀ a₀ o' r (i + 1)
-  wrote_one h e w = record { left = rest_step w s.left (rw (add-one, drop-cons items i 0 h) e); size = wrote_length w ∙ s.size }
+module _ {bytes : List ℕ → Bytes} {items : List ℕ} {w₀ w : Writer} {i : ℕ} (s : Putting bytes items w₀ w i) where
+  pub put_one : i < length items → {one : Bytes} {w' : Writer} → bytes (get_or items i 0 ∷ drop (suc i) items) ≡ one ++ bytes (drop (suc i) items)
+      → Puts w one w' → Putting bytes items w₀ w' (i + 1)
+  put_one h e p = record { left = rest_step p s.left (rw (add-one, drop-cons items i 0 h) e) }
 
-  pub wrote_all : length items ≤ i → bytes [] ≡ [] → Wrote o₀ a₀ (bytes items) o a
-  wrote_all h e = rest_none s.left (rw (drop_of_length-le items h) e)
+  pub put_all : length items ≤ i → bytes [] ≡ [] → Puts w₀ (bytes items) w
+  put_all h e = rest_none s.left (rw (drop_of_length-le items h) e)

@@ -1,36 +1,34 @@
 // The imports of a schema table.
 #![tactic(auto)]
 
-ghost use Rattle.wire.specs.Put.{Wrote};
+ghost use Rattle.wire.specs.Puts.{Puts};
 ghost use Rattle.grammar.specs.Tree.{All};
 ghost use Rattle.places.specs.Imports.{NamedHere};
 ghost use Rattle.imports.specs.Imports.{meaning_at, encode_import, imports_at};
 
-use parser::{Cursor, ImportStep};
+use parser::Cursor;
+use schema::kind::Kind;
+use wire::Writer;
 
-fn put_import(out: &mut [u8], o: usize, t: &[u8], x: u64) -> usize
+fn put_import(w: &mut Writer, t: &[u8], x: u64)
     requires { NamedHere t.now x }
-    ensures { Wrote out.old o (encode_import (meaning_at t.now x)) out.new result }
+    ensures { Puts w.old (encode_import (meaning_at t.now x)) w.new }
 {
     let at = sorted::place_of(x);
-    let ImportStep::Passed(i, _) = parser::parse_import(t, Cursor { at }) else {
-        return o;
+    let Ok((i, _)) = parser::parse_import(t, Cursor { at }) else {
+        unreachable!();
     };
-    let start = token::start_at(t, at);
-    let end = token::end_at(t, i.last);
+    let range = records::span_tokens(t, at, i.last());
     let name = sorted::name_of(t, x);
-    records::put_named(out, o, 102, start, end, name, token::payload_at(t, i.path))
+    let path = token::payload_at(t, i.path);
+    records::put_named(w, Kind::Import, range, name, path);
 }
 
-pub fn put_imports(out: &mut [u8], o: usize, t: &[u8], imports: &[u64]) -> usize
+pub fn put_imports(w: &mut Writer, t: &[u8], imports: &[u64])
     requires { All (NamedHere t.now) imports.now }
-    ensures { Wrote out.old o (imports_at t.now imports.now) out.new result }
+    ensures { Puts w.old (imports_at t.now imports.now) w.new }
 {
-    let mut a = o;
-    let mut i: usize = 0;
-    while i < imports.len() {
-        a = put_import(out, a, t, imports[i]);
-        i += 1;
+    for x in imports {
+        put_import(w, t, *x);
     }
-    a
 }

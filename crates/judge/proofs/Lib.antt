@@ -3,7 +3,6 @@ pub mod Ahead
 pub mod Errors
 pub mod Remains
 pub mod Fields
-pub mod Clearing
 pub mod Walks
 pub mod Sorting
 pub mod Indices

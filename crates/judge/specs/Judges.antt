@@ -2,7 +2,8 @@
 -- reading leaves.
 use Rattle.std.specs.Prelude.{ℕ, ◌≤◌, ◌≡◌, List, length}
 use Rattle.wire.specs.Bytes.{Bytes}
-use Rattle.wire.specs.Put.{Wrote}
+use Rattle.wire.specs.Puts.{Puts}
+use Rattle.wire.specs.declared.Writer.{Writer}
 use Rattle.token.specs.Token.{Token, end_of}
 use Rattle.token.specs.Places.{tokens_from, Wf}
 use Rattle.schema.specs.Ast.{Range}
@@ -13,13 +14,13 @@ use Rattle.grammar.specs.Reading.{Reading, is, front, skip, parse_fields, parse_
 use Rattle.token.specs.Kind.{k_integer}
 use Rattle.parser.specs.Steps.{ahead}
 use Rattle.parser.specs.declared.Cursor.{Cursor}
-use Rattle.judge.specs.declared.SourceRange.{SourceRange}
-use Rattle.judge.specs.declared.Judged.{Judged}
+use Rattle.records.specs.Pieces as pieces
+use Rattle.records.specs.declared.SourceRange.{SourceRange}
 
-pub record Judges {A : Type 0} (t o : Bytes) (at : ℕ) (R : Reading A) (o' : Bytes) (r : Judged) : Type 0 where
-  pub wrote : Wrote o at (errors_bytes R.errors) o' r.out
-  pub rest : ahead t r.next ≡ R.rest
-  pub wf : Wf t r.next.at
+pub record Judges {A : Type 0} (t : Bytes) (w : Writer) (R : Reading A) (w' : Writer) (c : Cursor) : Type 0 where
+  pub wrote : Puts w (errors_bytes R.errors) w'
+  pub rest : ahead t c ≡ R.rest
+  pub wf : Wf t c.at
 
 -- a cursor of a good table stands before these tokens
 pub record Before (t : Bytes) (ts : List Token) (c : Cursor) : Type 0 where
@@ -38,7 +39,7 @@ pub record Judgeable (t : Bytes) (end : ℕ) (items spare : List ℕ) : Type 0 w
   pub last : end ≡ end_of 0 (tokens_from t 0)
 
 abbrev pub source_range : Range → SourceRange
-source_range r = record { start = r.start; end = r.end }
+source_range = pieces.source_range
 
 abbrev pub error_of : ℕ → ℕ → ℕ → ℕ → Error
 error_of number start end found = record { number = number; range = record { start = start; end = end }; found = found }

@@ -14,8 +14,7 @@ use Rattle.identifier.specs.Forms.{snake_of}
 use Rattle.identifier.specs.Order.{same_name, name_order}
 use Rattle.names.specs.Namespace.{first_name, after_name, starts_name, is_namespace, names_of}
 use Rattle.names.specs.Namespace.{after_names, text_of, common, common_of, relative_of, steps_up}
-use Rattle.names.proofs.Walk.{Holds, none, more, holds, holds_names}
-use Rattle.names.proofs.Shared.{few}
+use Rattle.names.proofs.Walk.{Holds, none, more, holds, holds_names, few}
 
 -- k names are the common start of two namespaces: they are the same, and the next two, where there are two, are not
 pub record CommonStart (xs ys : List Bytes) (k : ℕ) : Type 0 where

@@ -1,4 +1,4 @@
 -- The definitions of namespaces and of the answers on names.
 pub mod Namespace
-pub mod Place
+pub mod Whole
 pub mod Answer

@@ -1,169 +1,121 @@
 // Names and namespaces as a caller lends them: each function refuses what is no name or no namespace with R10, and what does not fit with R8.
 #![tactic(auto)]
 
-ghost use Rattle.std.specs.Prelude.{◌≡◌, true, ◌&&◌, ◌+◌, ◌<◌, ◌≤◌, length, take};
-ghost use Rattle.wire.specs.Le.{u16_at};
-ghost use Rattle.wire.specs.Put.{Wrote};
-ghost use Rattle.identifier.specs.Byte.{class_of};
-ghost use Rattle.identifier.specs.Table.{table};
+ghost use Rattle.std.specs.Prelude.{◌≡◌, true, false, ◌+◌, ◌≤◌, length, take, MatchOption, MatchResult, ◌&&◌};
+ghost use Rattle.std.specs.Iterator.{YieldsFirstRef, item_count};
+ghost use Rattle.wire.specs.Puts.{Puts};
+ghost use Rattle.wire.specs.Refusal.{refused_by};
 ghost use Rattle.identifier.specs.Name.{is_name};
 ghost use Rattle.identifier.specs.Forms.{snake_of, camel_of, pascal_of};
 ghost use Rattle.identifier.specs.Join.{join_of};
 ghost use Rattle.identifier.specs.Survive.{survives};
 ghost use Rattle.names.specs.Namespace.{is_namespace, names_of, text_of, relative_of, steps_up};
-ghost use Rattle.names.specs.Place.{name_at, end_of, dot_at, Parted};
-ghost use Rattle.names.specs.Answer.{Answers, with_steps, Relatives, compared_as, compared_of, sameness_of, is_joinable, survival_of};
+ghost use Rattle.names.specs.Whole.{is_whole, Split, whole_of, Parted};
+ghost use Rattle.names.specs.Answer.{Answers, Relatives, compared_of, sameness_of, is_joinable, survival_of};
 
-use identifier::{Form, Order};
+use identifier::Form;
+use std::cmp::Ordering;
+use wire::{Refusal, Refused, Writer};
 
-#[derive(Clone, Copy, Drop)]
-pub enum Answer {
-    Written(usize),
-    Refused(u16, usize),
+const MOST_NAMES: usize = 64;
+
+// R10 where a test of the input fails.
+fn check(good: bool) -> Result<(), Refused>
+    ensures { MatchResult result (λ _. good ≡ true) (λ e. (good ≡ false) × (e ≡ refused_by Refusal.NotAName)) }
+{
+    if good {
+        return Ok(());
+    }
+    Err(Refusal::NotAName.into())
 }
 
 // Puts the bytes at the front of the buffer, where they fit.
-fn store(out: &mut [u8], bytes: &[u8]) -> Answer
+fn store(out: &mut [u8], bytes: &[u8]) -> Result<usize, Refused>
     ensures { Answers true bytes.now out.old out.new result }
 {
     let n = bytes.len();
     if out.len() < n {
-        return Answer::Refused(8, 0);
+        return Err(Refusal::NoRoom.into());
     }
-    wire::put_slice(out, 0, bytes);
-    Answer::Written(n)
+    out[..n].copy_from_slice(bytes);
+    Ok(n)
 }
 
-fn store_form(out: &mut [u8], form: Form) -> Answer
-    requires { form.len ≤ length form.bytes }
-    ensures { Answers true (take form.len form.bytes) out.old out.new result }
+fn store_form(out: &mut [u8], form: &Form) -> Result<usize, Refused>
+    requires { form.now.len ≤ length form.now.bytes }
+    ensures { Answers true (take form.now.len form.now.bytes) out.old out.new result }
 {
-    let bytes = form.bytes;
-    let len = form.len;
-    store(out, &bytes[..len])
+    store(out, &form.bytes[..form.len])
 }
 
-fn is_name(name: &[u8]) -> bool
-    ensures { result ≡ is_name name.now }
+pub fn snake_case(out: &mut [u8], name: &[u8]) -> Result<usize, Refused>
+    ensures { Answers (is_name name.now) (snake_of name.now) out.old out.new result }
 {
-    let class = identifier::tables::class_table();
-    identifier::tables::is_name(&class, name)
+    check(identifier::is_name(name))?;
+    store_form(out, &identifier::snake(name))
+}
+
+pub fn camel_case(out: &mut [u8], name: &[u8]) -> Result<usize, Refused>
+    ensures { Answers (is_name name.now) (camel_of name.now) out.old out.new result }
+{
+    check(identifier::is_name(name))?;
+    store_form(out, &identifier::camel(name))
+}
+
+pub fn pascal_case(out: &mut [u8], name: &[u8]) -> Result<usize, Refused>
+    ensures { Answers (is_name name.now) (pascal_of name.now) out.old out.new result }
+{
+    check(identifier::is_name(name))?;
+    store_form(out, &identifier::pascal(name))
 }
 
 fn are_names(a: &[u8], b: &[u8]) -> bool
     ensures { result ≡ (is_name a.now && is_name b.now) }
 {
-    if is_name(a) {
-        return is_name(b);
-    }
-    false
+    identifier::is_name(a) && identifier::is_name(b)
 }
 
-pub fn snake_case(out: &mut [u8], name: &[u8]) -> Answer
-    ensures { Answers (is_name name.now) (snake_of name.now) out.old out.new result }
-{
-    if is_name(name) {
-        return store_form(out, identifier::snake(name));
-    }
-    Answer::Refused(10, 0)
-}
-
-pub fn camel_case(out: &mut [u8], name: &[u8]) -> Answer
-    ensures { Answers (is_name name.now) (camel_of name.now) out.old out.new result }
-{
-    if is_name(name) {
-        return store_form(out, identifier::camel(name));
-    }
-    Answer::Refused(10, 0)
-}
-
-pub fn pascal_case(out: &mut [u8], name: &[u8]) -> Answer
-    ensures { Answers (is_name name.now) (pascal_of name.now) out.old out.new result }
-{
-    if is_name(name) {
-        return store_form(out, identifier::pascal(name));
-    }
-    Answer::Refused(10, 0)
-}
-
-#[derive(Clone, Copy, Drop)]
-pub enum Compared {
-    Less,
-    Equal,
-    Greater,
-    Refused(u16, usize),
-}
-
-fn as_compared(order: Order) -> Compared
-    ensures { result ≡ compared_as order }
-{
-    match order {
-        Order::Less => Compared::Less,
-        Order::Equal => Compared::Equal,
-        Order::Greater => Compared::Greater,
-    }
-}
-
-// The order of two names.
-pub fn cmp(a: &[u8], b: &[u8]) -> Compared
+/// The order of two names.
+pub fn cmp(a: &[u8], b: &[u8]) -> Result<Ordering, Refused>
     ensures { result ≡ compared_of a.now b.now }
 {
-    if are_names(a, b) {
-        return as_compared(identifier::compare(a, b));
-    }
-    Compared::Refused(10, 0)
+    check(are_names(a, b))?;
+    Ok(identifier::compare(a, b))
 }
 
-#[derive(Clone, Copy, Drop)]
-pub enum Sameness {
-    Same,
-    Different,
-    Refused(u16, usize),
-}
-
-// Whether two names are equal.
-pub fn eq(a: &[u8], b: &[u8]) -> Sameness
+/// Whether two names are equal.
+pub fn eq(a: &[u8], b: &[u8]) -> Result<bool, Refused>
     ensures { result ≡ sameness_of a.now b.now }
 {
-    if are_names(a, b) {
-        if identifier::same(a, b) {
-            return Sameness::Same;
-        }
-        return Sameness::Different;
-    }
-    Sameness::Refused(10, 0)
+    check(are_names(a, b))?;
+    Ok(identifier::same(a, b))
 }
 
 fn is_joinable(a: &[u8], b: &[u8]) -> bool
     ensures { result ≡ is_joinable a.now b.now }
 {
-    if are_names(a, b) {
-        return a.len() + b.len() <= 127;
-    }
-    false
+    are_names(a, b) && a.len() + 1 + b.len() <= 128
 }
 
-fn store_join(out: &mut [u8], a: &[u8], b: &[u8]) -> Answer
-    requires { length a.now + length b.now ≤ 127 }
+fn store_join(out: &mut [u8], a: &[u8], b: &[u8]) -> Result<usize, Refused>
+    requires { length a.now + 1 + length b.now ≤ 128 }
     ensures { Answers true (join_of a.now b.now) out.old out.new result }
 {
-    let size = a.len() + 1 + b.len();
-    if out.len() < size {
-        return Answer::Refused(8, 0);
+    if out.len() < a.len() + 1 + b.len() {
+        return Err(Refusal::NoRoom.into());
     }
-    let p = wire::put_slice(out, 0, a);
-    let q = wire::put_byte(out, p, b'_');
-    wire::put_slice(out, q, b);
-    Answer::Written(size)
+    let mut w = Writer::new(out);
+    w.put_slice(a);
+    w.put_byte(b'_');
+    w.put_slice(b);
+    Ok(w.at)
 }
 
-pub fn join(out: &mut [u8], a: &[u8], b: &[u8]) -> Answer
+pub fn join(out: &mut [u8], a: &[u8], b: &[u8]) -> Result<usize, Refused>
     ensures { Answers (is_joinable a.now b.now) (join_of a.now b.now) out.old out.new result }
 {
-    if is_joinable(a, b) {
-        return store_join(out, a, b);
-    }
-    Answer::Refused(10, 0)
+    check(is_joinable(a, b))?;
+    store_join(out, a, b)
 }
 
 fn is_kept(name: &[u8]) -> bool
@@ -171,212 +123,156 @@ fn is_kept(name: &[u8]) -> bool
     ensures { result ≡ survives name.now }
 {
     let pascal = identifier::pascal(name);
-    let bytes = pascal.bytes;
-    let len = pascal.len;
-    identifier::same(&bytes[..len], name)
+    identifier::same(&pascal.bytes[..pascal.len], name)
 }
 
-#[derive(Clone, Copy, Drop)]
-pub enum Survival {
-    Survives,
-    Changes,
-    Refused(u16, usize),
-}
-
-// Whether a name survives printing.
-pub fn survives(name: &[u8]) -> Survival
+/// Whether a name survives printing.
+pub fn survives(name: &[u8]) -> Result<bool, Refused>
     ensures { result ≡ survival_of name.now }
 {
-    if is_name(name) {
-        if is_kept(name) {
-            return Survival::Survives;
-        }
-        return Survival::Changes;
-    }
-    Survival::Refused(10, 0)
+    check(identifier::is_name(name))?;
+    Ok(is_kept(name))
 }
 
-// The place past the name that stands at a place of a namespace, or 0 where it is cut short or no name.
-fn name_end(class: &[u8; 256], ns: &[u8], at: usize) -> usize
-    requires { (class.now ≡ table class_of) × (at < length ns.now) }
-    ensures { result ≡ end_of ns.now at }
+// The first name and the bytes behind it, where it is not cut short.
+fn split_first_name(bytes: &[u8]) -> Option<(&[u8], &[u8])>
+    ensures { MatchOption result (is_whole bytes.now ≡ false) (λ p. Split bytes.now p.0.now p.1.now) }
 {
-    if ns.len() - at < 2 {
-        return 0;
+    let (size, rest) = bytes.split_at_checked(2)?;
+    rest.split_at_checked(wire::u16_at(size, 0) as usize)
+}
+
+// The names in these bytes, up to the first that is cut short.
+#[derive(Drop)]
+struct Names<'a> {
+    left: &'a [u8],
+}
+
+impl<'a> Iterator for Names<'a> {
+    type Item = &'a [u8];
+
+    ghost next_gives = { YieldsFirstRef (λ s. whole_of s.left.now) };
+
+    ghost remaining = { item_count (λ s. whole_of s.left.now) };
+
+    fn next(&mut self) -> Option<&'a [u8]> {
+        let (name, rest) = split_first_name(self.left)?;
+        self.left = rest;
+        Some(name)
     }
-    let from = at + 2;
-    let size = wire::u16_at(ns, at) as usize;
-    if ns.len() - from < size {
-        return 0;
-    }
-    let to = from + size;
-    if identifier::tables::is_name(class, &ns[from..to]) {
-        return to;
-    }
-    0
 }
 
 fn is_namespace(ns: &[u8]) -> bool
     ensures { result ≡ is_namespace ns.now }
 {
-    let class = identifier::tables::class_table();
-    let mut left: usize = 64;
-    let mut at: usize = 0;
-    while at < ns.len() {
-        if left == 0 {
+    let mut rest = ns;
+    for _ in 0..MOST_NAMES {
+        let Some((name, after)) = split_first_name(rest) else {
+            break;
+        };
+        if !identifier::is_name(name) {
             return false;
         }
-        let end = name_end(&class, ns, at);
-        if end == 0 {
-            return false;
+        rest = after;
+    }
+    rest.is_empty()
+}
+
+// Bytes that passed the check.
+#[derive(Clone, Copy, Drop)]
+struct Namespace<'a> {
+    bytes: &'a [u8],
+    ghost good: { is_namespace bytes.now ≡ true },
+}
+
+impl<'a> Namespace<'a> {
+    fn checked(bytes: &'a [u8]) -> Result<Namespace<'a>, Refused>
+        ensures { MatchResult result (λ ns. ns.bytes.now ≡ bytes.now) (λ e. (is_namespace bytes.now ≡ false) × (e ≡ refused_by Refusal.NotAName)) }
+    {
+        check(is_namespace(bytes))?;
+        Ok(Namespace { bytes })
+    }
+}
+
+fn put_text(w: &mut Writer, ns: Namespace)
+    ensures { Puts w.old (text_of ns.entry.bytes.now) w.new }
+{
+    let mut names = Names { left: ns.bytes };
+    if let Some(first) = names.next() {
+        identifier::put_snake(w, first);
+        for name in names {
+            w.put_byte(b'.');
+            identifier::put_snake(w, name);
         }
-        left -= 1;
-        at = end;
     }
-    true
 }
 
-// The `.` before each name but the first, which stands at 0.
-fn put_dot(out: &mut [u8], at: usize, p: usize) -> usize
-    ensures { Wrote out.old at (dot_at p) out.new result }
+fn store_text(out: &mut [u8], ns: Namespace) -> Result<usize, Refused>
+    ensures { Answers true (text_of ns.entry.bytes.now) out.old out.new result }
 {
-    if p == 0 {
-        return at;
+    let mut measured = Writer::new(&mut []);
+    put_text(&mut measured, ns);
+    if out.len() < measured.at {
+        return Err(Refusal::NoRoom.into());
     }
-    wire::put_byte(out, at, b'.')
+    let mut w = Writer::new(out);
+    put_text(&mut w, ns);
+    Ok(w.at)
 }
 
-// The name that stands at a place of a namespace.
-fn name_at(ns: &[u8], p: usize) -> &[u8]
-    requires { p + 2 + u16_at ns.now p ≤ length ns.now }
-    ensures { result.now ≡ name_at ns.now p }
-{
-    let from = p + 2;
-    let to = from + (wire::u16_at(ns, p) as usize);
-    &ns[from..to]
-}
-
-fn put_text(out: &mut [u8], at: usize, ns: &[u8]) -> usize
-    requires { is_namespace ns.now ≡ true }
-    ensures { Wrote out.old at (text_of ns.now) out.new result }
-{
-    let mut a = at;
-    let mut p: usize = 0;
-    while p < ns.len() {
-        let name = name_at(ns, p);
-        a = put_dot(out, a, p);
-        a = identifier::put_snake(out, a, name);
-        p = p + 2 + name.len();
-    }
-    a
-}
-
-fn store_text(out: &mut [u8], ns: &[u8]) -> Answer
-    requires { is_namespace ns.now ≡ true }
-    ensures { Answers true (text_of ns.now) out.old out.new result }
-{
-    let need = put_text(&mut out[..0], 0, ns);
-    if out.len() < need {
-        return Answer::Refused(8, 0);
-    }
-    Answer::Written(put_text(out, 0, ns))
-}
-
-// The text of a namespace.
-pub fn text(out: &mut [u8], ns: &[u8]) -> Answer
+/// The text of a namespace.
+pub fn text(out: &mut [u8], ns: &[u8]) -> Result<usize, Refused>
     ensures { Answers (is_namespace ns.now) (text_of ns.now) out.old out.new result }
 {
-    if is_namespace(ns) {
-        return store_text(out, ns);
-    }
-    Answer::Refused(10, 0)
+    store_text(out, Namespace::checked(ns)?)
 }
 
-fn count_names(ns: &[u8]) -> usize
-    requires { is_namespace ns.now ≡ true }
-    ensures { result ≡ length (names_of ns.now) }
+fn count_names(ns: Namespace) -> usize
+    ensures { result ≡ length (whole_of ns.entry.bytes.now) }
 {
-    let mut n: usize = 0;
-    let mut p: usize = 0;
-    while p < ns.len() {
-        let name = name_at(ns, p);
-        n += 1;
-        p = p + 2 + name.len();
-    }
-    n
+    Names { left: ns.bytes }.count()
 }
 
-// Places in two namespaces.
-#[derive(Drop)]
-struct Places {
-    one: usize,
-    other: usize,
-}
-
-// The places after the longest common start.
-fn common(a: &[u8], b: &[u8]) -> Places
-    requires { (is_namespace a.now ≡ true) × (is_namespace b.now ≡ true) }
-    ensures { Parted a.now b.now result.one result.other }
+// What follows the longest common start in each.
+fn common<'a, 'b>(a: Namespace<'a>, b: Namespace<'b>) -> (&'a [u8], Namespace<'b>)
+    ensures { Parted a.entry.bytes.now b.entry.bytes.now result.0.now result.1.bytes.now }
 {
-    let mut i: usize = 0;
-    let mut j: usize = 0;
-    while i < a.len() {
-        if b.len() <= j {
-            return Places { one: i, other: j };
+    let mut one = a.bytes;
+    let mut other = b.bytes;
+    while let (Some((x, x_rest)), Some((y, y_rest))) = (
+        split_first_name(one),
+        split_first_name(other),
+    ) {
+        if !identifier::same(x, y) {
+            break;
         }
-        let x = name_at(a, i);
-        let y = name_at(b, j);
-        if identifier::same(x, y) {
-            i = i + 2 + x.len();
-            j = j + 2 + y.len();
-        } else {
-            return Places { one: i, other: j };
-        }
+        one = x_rest;
+        other = y_rest;
     }
-    Places { one: i, other: j }
+    (one, Namespace { bytes: other })
 }
 
-#[derive(Clone, Copy, Drop)]
-pub enum Relative {
-    Written(usize, usize),
-    Refused(u16, usize),
+/// How many bytes were written, and how many steps it is up to the common start.
+#[derive(Clone, Copy, Drop, PartialEq, Eq, Debug)]
+pub struct Relative {
+    pub size: usize,
+    pub up: usize,
 }
 
-fn with_steps(up: usize, answer: Answer) -> Relative
-    ensures { result ≡ with_steps up answer }
+fn store_relative(out: &mut [u8], a: Namespace, b: Namespace) -> Result<Relative, Refused>
+    ensures { Relatives true (relative_of a.entry.bytes.now b.entry.bytes.now) (steps_up a.entry.bytes.now b.entry.bytes.now) out.old out.new result }
 {
-    match answer {
-        Answer::Written(size) => Relative::Written(size, up),
-        Answer::Refused(number, offset) => Relative::Refused(number, offset),
-    }
+    let (rest, other) = common(a, b);
+    let size = store(out, rest)?;
+    Ok(Relative {
+        size,
+        up: count_names(other),
+    })
 }
 
-fn store_relative(out: &mut [u8], a: &[u8], b: &[u8]) -> Relative
-    requires { (is_namespace a.now ≡ true) × (is_namespace b.now ≡ true) }
-    ensures { Relatives true (relative_of a.now b.now) (steps_up a.now b.now) out.old out.new result }
-{
-    let places = common(a, b);
-    let i = places.one;
-    let j = places.other;
-    let up = count_names(&b[j..]);
-    with_steps(up, store(out, &a[i..]))
-}
-
-fn are_namespaces(a: &[u8], b: &[u8]) -> bool
-    ensures { result ≡ (is_namespace a.now && is_namespace b.now) }
-{
-    if is_namespace(a) {
-        return is_namespace(b);
-    }
-    false
-}
-
-// The first namespace relative to the second: the names after their longest common start, and the steps up from the second to it.
-pub fn relativize(out: &mut [u8], a: &[u8], b: &[u8]) -> Relative
+/// The first namespace relative to the second: the names after their longest common start, and the steps up from the second to it.
+pub fn relativize(out: &mut [u8], a: &[u8], b: &[u8]) -> Result<Relative, Refused>
     ensures { Relatives (is_namespace a.now && is_namespace b.now) (relative_of a.now b.now) (steps_up a.now b.now) out.old out.new result }
 {
-    if are_namespaces(a, b) {
-        return store_relative(out, a, b);
-    }
-    Relative::Refused(10, 0)
+    store_relative(out, Namespace::checked(a)?, Namespace::checked(b)?)
 }

@@ -1,13 +1,14 @@
 -- Rules over a cursor: one token, one rule after the other, an optional part.
 use Prim.Native.Nat.{ℕ, zero, suc, ◌≤◌, ◌<◌}
-use mathlib.Core.Path.{◌≡◌, refl, sym, ap, ◌∙◌}
+use mathlib.Core.Path.{◌≡◌, refl, sym, ap, subst, ◌∙◌}
 use mathlib.Core.Bool.{Bool, true, false, true≢false}
-use mathlib.Core.Option.{Option, none, some}
+use mathlib.Core.Option.{Option, some}
 use mathlib.Core.List.{List, [], ◌∷◌}
 use native.Mathlib.Omega.{arith}
 use borrow.Author.Tests.{ltb-true, ltb-false}
 use lib.Dec.{ltb}
 use lib.ListN.{length}
+use Rattle.std.specs.Prelude.{Some, Result as Outcome, Ok, Err, IsErrAnd, MatchResult, Option as Places, IfSome, is_some}
 use Rattle.wire.specs.Bytes.{Bytes}
 use Rattle.wire.specs.Pick.{pick}
 use Rattle.token.specs.Token.{Token}
@@ -15,9 +16,11 @@ use Rattle.token.specs.Places.{tok_at, next_at, tokens_from, Wf}
 use Rattle.token.proofs.Walk.{tokens_end, tokens_step, wf_good, wf_next, next_past}
 use Rattle.grammar.specs.Error.{kind_at}
 use Rattle.grammar.specs.Reading.{Result, ok, fail, and_then, consume, optional}
-use Rattle.grammar.proofs.Rules.{consume_complete, optional_none}
-use Rattle.parser.specs.Steps.{ahead, Stepped, Reads, TokenPassed, Skipped}
+use Rattle.grammar.proofs.Rules.{consume_complete}
+use Rattle.parser.specs.Laid.{place_if}
+use Rattle.parser.specs.Steps.{ahead, Stands, Stepped, Reads, TokenPassed, Skipped}
 use Rattle.parser.specs.declared.Cursor.{Cursor}
+use Rattle.parser.specs.declared.Failure.{Failure}
 
 -- the kind ahead tells whether a token stands there
 module _ (t : Bytes) (at : ℕ) where
@@ -88,31 +91,38 @@ module _ {A B : Type 0} {t : Bytes} {c d : Cursor} {rule : List Token → Result
   pub stop : {n : ℕ} → Reads t c rule (fail n) d → Reads t c (λ ts. and_then (rule ts) f) (fail n) d
   stop p = record { gives = rw p.gives; wf = p.wf; onward = p.onward }
 
--- A part that may be absent, by the test of its first token's kind.
-module _ {A : Type 0} {t : Bytes} {c : Cursor} (test : ℕ → Bool) (rule : Token → List Token → Result A) where
-  pub absent : Wf t c.at → test (kind_at (ahead t c)) ≡ false → Reads t c (optional test rule) (ok none) c
-  absent w e = record { gives = optional_none test rule (ahead t c) e; wf = w; onward = omega arith }
+-- A part that stands there, by the test of its first token's kind.
+module _ {A : Type 0} {t : Bytes} {c d e : Cursor} (test : ℕ → Bool) (rule : Token → List Token → Result A) (s : Stepped t c d)
+    (k : test (kind_at (ahead t c)) ≡ true) where
+  begins : {out : List Token → Result (Option A)} → Reads t d (λ ts. and_then (rule (tok_at t c.at) ts) λ x r. ok (some x) r) out e
+      → Reads t c (optional test rule) out e
+  begins h =
+      record {
+        gives = rw s.first (rw (rw s.first at k, optional) h.gives);
+        wf = h.wf;
+        onward = omega (arith, s.place, h.onward, next_past t c.at);
+      }
 
-  module _ {d e : Cursor} (s : Stepped t c d) (k : test (kind_at (ahead t c)) ≡ true) where
-    begins : {out : List Token → Result (Option A)} → Reads t d (λ ts. and_then (rule (tok_at t c.at) ts) λ x r. ok (some x) r) out e
-        → Reads t c (optional test rule) out e
-    begins h =
-        record {
-          gives = rw s.first (rw (rw s.first at k, optional) h.gives);
-          wf = h.wf;
-          onward = omega (arith, s.place, h.onward, next_past t c.at);
-        }
+  pub present : {x : A} → Reads t d (rule (tok_at t c.at)) (ok x) e → Reads t c (optional test rule) (ok (some x)) e
+  present h = begins (then _ h (done h.wf))
 
-    pub present : {x : A} → Reads t d (rule (tok_at t c.at)) (ok x) e → Reads t c (optional test rule) (ok (some x)) e
-    present h = begins (then _ h (done h.wf))
+  pub broken : {n : ℕ} → Reads t d (rule (tok_at t c.at)) (fail n) e → Reads t c (optional test rule) (fail n) e
+  broken h = begins (stop _ h)
 
-    pub broken : {n : ℕ} → Reads t d (rule (tok_at t c.at)) (fail n) e → Reads t c (optional test rule) (fail n) e
-    broken h = begins (stop _ h)
+-- what a `?` hands on fails as what it was told
+pub handed : {X : Type 0} (P : X → Type 0) (Q : Failure → Type 0) (r : Outcome X Failure) (f : Failure) → IsErrAnd r (λ g. g ≡ f) → Q f → MatchResult r P Q
+handed P Q (Ok x) f h q = absurd h
+handed P Q (Err g) f h q = subst Q (sym h) q
 
 -- a token alone
 module _ {t : Bytes} {c : Cursor} (test : ℕ → Bool) where
-  pub skipped : {d : Cursor} → Stepped t c d → test (kind_at (ahead t c)) ≡ true → Skipped t c test (record { there = true; next = d })
-  skipped s e = record { read = present test ok s e (done s.wf); first = refl; place = s.place }
+  pub skipped : {d : Cursor} → Stepped t c d → test (kind_at (ahead t c)) ≡ true → Skipped t c test (Some c.at, d)
+  skipped s e = record { read = present test ok s e (done s.wf); first = refl; there = refl; place = s.place }
 
-  pub not_skipped : Wf t c.at → test (kind_at (ahead t c)) ≡ false → Skipped t c test (record { there = false; next = c })
-  not_skipped w e = record { read = absent test ok w e; first = refl; place = refl }
+-- where the optional token stands, a token does
+pub there_stands : {t : Bytes} {c : Cursor} {test : ℕ → Bool} {s : Places ℕ × Cursor} → Skipped t c test s → Stands t c.at → IfSome s.0 (Stands t)
+there_stands {t} {c} {s = s} h k = rw h.there (stands_if t (is_some s.0) c.at k)
+  where
+    stands_if : (t : Bytes) (b : Bool) (at : ℕ) → Stands t at → IfSome (place_if b at) (Stands t)
+    stands_if t true at h = h
+    stands_if t false at h = tt

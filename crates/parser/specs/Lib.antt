@@ -1,4 +1,5 @@
 -- What the rules of the parser answer.
+pub mod Faults
 pub mod Trees
 pub mod Laid
 pub mod Steps

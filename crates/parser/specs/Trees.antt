@@ -1,14 +1,16 @@
 -- The derivation trees whose tokens stand at the places that the rules hand on.
-use Rattle.std.specs.Prelude.{ℕ, zero, suc, ◌+◌, ◌*◌, Bool, true, false, eqb}
+use Rattle.std.specs.Prelude.{ℕ, zero, suc, ◌+◌, ◌*◌, Bool, true, false, eqb, is_some, None, Some}
+use Rattle.std.specs.Prelude.{Option as Places}
+use Rattle.std.specs.Option.{unwrap_or}
 use Rattle.std.proofs.Math.Option.{Option, none, some}
 use Rattle.wire.specs.Bytes.{Bytes}
 use Rattle.wire.specs.Pick.{pick}
+use Rattle.token.specs.Token.{Token}
 use Rattle.token.specs.Kind.{k_identifier}
 use Rattle.token.specs.Places.{tok_at, next_at}
 use Rattle.grammar.specs.Tree.{TypeTree, array, plain, single, dotted, TypePart, FieldTree, HeadTree, AliasPart, ImportTree}
 use Rattle.parser.specs.declared.TypePlaces.{TypePlaces}
 use Rattle.parser.specs.declared.PartPlaces.{PartPlaces}
-use Rattle.parser.specs.declared.PartPlaces.TheVariants.{Absent, Present}
 use Rattle.parser.specs.declared.FieldPlaces.{FieldPlaces}
 use Rattle.parser.specs.declared.HeadPlaces.{HeadPlaces}
 use Rattle.parser.specs.declared.ImportPlaces.{ImportPlaces}
@@ -16,6 +18,11 @@ use Rattle.parser.specs.declared.ImportPlaces.{ImportPlaces}
 abbrev pub when : {A : Type 0} → Bool → A → Option A
 when true x = some x
 when false x = none
+
+-- the token at this place, where there is one
+abbrev pub token_there : Bytes → Places ℕ → Option Token
+token_there t None = none
+token_there t (Some at) = some (tok_at t at)
 
 abbrev pub base_at : Bytes → ℕ → Bool → TypeTree
 base_at t at true = dotted (tok_at t at) (tok_at t (next_at t at)) (tok_at t (next_at t (next_at t at)))
@@ -29,15 +36,15 @@ array_at t close base (suc d) opens = array (tok_at t opens) (array_at t close b
 abbrev pub type_at : Bytes → TypePlaces → TypeTree
 type_at t p = array_at t p.close (base_at t p.base p.dotted) p.depth p.opens
 
-abbrev pub part_at : Bytes → PartPlaces → Option TypePart
-part_at t Absent = none
-part_at t (Present colon p) = some (record { colon = tok_at t colon; type = type_at t p })
+abbrev pub part_at : Bytes → Places PartPlaces → Option TypePart
+part_at t None = none
+part_at t (Some p) = some (record { colon = tok_at t p.colon; type = type_at t p.ty })
 
 abbrev pub field_at : Bytes → FieldPlaces → FieldTree
 field_at t f =
     record {
-      comment = when f.commented (tok_at t f.first);
-      rule = when f.ruled (tok_at t f.rule);
+      comment = token_there t f.comment;
+      rule = token_there t f.rule;
       name = tok_at t f.name;
       type = part_at t f.part;
       equals = tok_at t f.equals;
@@ -47,14 +54,17 @@ field_at t f =
 abbrev pub head_at : Bytes → HeadPlaces → HeadTree
 head_at t h =
     record {
-      comment = when h.commented (tok_at t h.first);
+      comment = token_there t h.comment;
       keyword = tok_at t h.keyword;
       name = tok_at t h.name;
       left = tok_at t (next_at t h.name);
     }
 
+abbrev pub last_place : ImportPlaces → ℕ
+last_place i = unwrap_or i.alias i.path
+
 abbrev pub alias_at : Bytes → ImportPlaces → AliasPart
-alias_at t i = record { keyword = tok_at t (next_at t i.path); name = tok_at t i.last }
+alias_at t i = record { keyword = tok_at t (next_at t i.path); name = tok_at t (last_place i) }
 
 abbrev pub import_at : Bytes → ImportPlaces → ImportTree
-import_at t i = record { keyword = tok_at t i.first; path = tok_at t i.path; alias = when i.aliased (alias_at t i) }
+import_at t i = record { keyword = tok_at t i.first; path = tok_at t i.path; alias = when (is_some i.alias) (alias_at t i) }

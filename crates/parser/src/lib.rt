@@ -1,103 +1,104 @@
-// The rules of parser.rs over a checked token table. Each goes from a cursor to the places of what it read and the cursor past it, or to an error's number and place.
+// The rules of parser.rs over a checked token table. Each goes from a cursor to the places of what it read and the cursor past it, or fails.
 #![tactic(auto)]
 
-ghost use Rattle.std.specs.Prelude.{◌≡◌, ◌≢◌, ◌<◌, eqb};
+ghost use Rattle.std.specs.Prelude.{◌≡◌, ◌<◌, ℕ, Bool, false, eqb};
 ghost use Rattle.wire.specs.Pick.{pick};
-ghost use Rattle.token.specs.Kind.{k_left_square, k_struct, is_rule};
+ghost use Rattle.token.specs.Kind.{k_comment, k_struct};
+ghost use Rattle.token.specs.Kinds.{number_of};
 ghost use Rattle.token.specs.Places.{Wf};
 ghost use Rattle.grammar.specs.Error.{kind_at};
 ghost use Rattle.grammar.specs.Reading.{is, consume, is_dotted, parse_dotted, parse_single, parse_type};
-ghost use Rattle.parser.specs.Steps.{ahead, Stepped, TokenRead, Skipped, TypeRead, base_step, Opened, PartRead, FieldRead, HeadRead, ImportRead};
+ghost use Rattle.parser.specs.Faults as faults;
+ghost use Rattle.parser.specs.Trees.{last_place};
+ghost use Rattle.parser.specs.Steps.{kind_number, Decides, ahead, Stepped, TokenRead, Skipped, TypeRead, base_step, PartRead, FieldRead, HeadRead, ImportRead};
 
-pub mod kinds;
+pub mod fault;
 
-use token::kind;
+pub use fault::Fault;
+use token::kind::Kind;
 
-// A place in the token table: a record's, or the table's length at the end of the tokens.
-#[derive(Clone, Copy, Drop)]
+/// A place in the token table: a record's, or the table's length at the end of the tokens.
+#[derive(Clone, Copy, Drop, PartialEq, Eq, Debug)]
 pub struct Cursor {
     pub at: usize,
 }
 
-// The kind of the token at c; 0 at the end.
-pub fn kind_or_end(t: &[u8], c: Cursor) -> u16
+/// What stopped a rule, and where it stopped.
+#[derive(Clone, Copy, Drop, PartialEq, Eq, Debug)]
+pub struct Failure {
+    pub fault: Fault,
+    pub at: Cursor,
+}
+
+/// The kind of the token at c; none at the end.
+pub fn peek(t: &[u8], c: Cursor) -> Option<Kind>
     requires { Wf t.now c.at }
-    ensures { result ≡ kind_at (ahead t.now c) }
+    ensures { kind_number result ≡ kind_at (ahead t.now c) }
 {
-    let at = c.at;
-    if at < t.len() {
-        return token::kind_at(t, at);
+    if c.at < t.len() {
+        Some(token::kind_at(t, c.at))
+    } else {
+        None
     }
-    0
+}
+
+/// Whether a token of this kind stands at c.
+pub fn is_next(t: &[u8], c: Cursor, kind: Kind) -> bool
+    requires { Wf t.now c.at }
+    ensures { result ≡ is (number_of kind) (kind_at (ahead t.now c)) }
+{
+    peek(t, c) == Some(kind)
+}
+
+/// Whether no token is left at c.
+pub fn is_done(t: &[u8], c: Cursor) -> bool
+    requires { Wf t.now c.at }
+    ensures { result ≡ eqb (kind_at (ahead t.now c)) 0 }
+{
+    peek(t, c).is_none()
 }
 
 pub fn next(t: &[u8], c: Cursor) -> Cursor
     requires { (Wf t.now c.at) × (0 < kind_at (ahead t.now c)) }
     ensures { Stepped t.now c result }
 {
-    let at = c.at;
     Cursor {
-        at: token::next_at(t, at),
+        at: token::next_at(t, c.at),
     }
-}
-
-#[derive(Clone, Copy, Drop)]
-pub enum TokenStep {
-    Passed(Cursor),
-    Failed(u16, Cursor),
 }
 
 // The Rust's consume_token_0 and consume_token_1.
-fn consume_token(t: &[u8], c: Cursor, kind: u16, number: u16) -> TokenStep
-    requires { (Wf t.now c.at) × (0 < kind) }
-    ensures { TokenRead t.now c (consume number (is kind)) result }
-{
-    if kind_or_end(t, c) != kind {
-        return TokenStep::Failed(number, c);
-    }
-    TokenStep::Passed(next(t, c))
-}
-
-// Whether an optional token stood there, and the cursor past it.
-#[derive(Clone, Copy, Drop)]
-pub struct Skip {
-    pub there: bool,
-    pub next: Cursor,
-}
-
-fn skip_token(t: &[u8], c: Cursor, kind: u16) -> Skip
-    requires { (Wf t.now c.at) × (0 < kind) }
-    ensures { Skipped t.now c (is kind) result }
-{
-    if kind_or_end(t, c) == kind {
-        return Skip {
-            there: true,
-            next: next(t, c),
-        };
-    }
-    Skip {
-        there: false,
-        next: c,
-    }
-}
-
-fn skip_rule(t: &[u8], c: Cursor) -> Skip
+fn consume_token(t: &[u8], c: Cursor, kind: Kind, fault: Fault) -> Result<Cursor, Failure>
     requires { Wf t.now c.at }
-    ensures { Skipped t.now c is_rule result }
+    ensures { TokenRead t.now c (consume (faults.number_of fault) (is (number_of kind))) result }
 {
-    if kinds::is_rule(kind_or_end(t, c)) {
-        return Skip {
-            there: true,
-            next: next(t, c),
-        };
-    }
-    Skip {
-        there: false,
-        next: c,
+    if is_next(t, c, kind) {
+        Ok(next(t, c))
+    } else {
+        Err(Failure { fault, at: c })
     }
 }
 
-// Where a type stands: from `opens` on `depth` brackets, then the base, of one token or dotted, then as many brackets from `close` on.
+// The place of a token whose kind passes the test, where one stands at c, and the cursor past it.
+fn skip_if<F: Fn(Kind) -> bool>(t: &[u8], c: Cursor, test: F) -> (Option<usize>, Cursor)
+    requires wf { Wf t.now c.at }
+    requires callable { F.IsAlwaysCallable test }
+    ensures { (k : ℕ → Bool) → k 0 ≡ false → Decides (F.post test) k → Skipped t.now c k result }
+{
+    match peek(t, c) {
+        Some(kind) if test(kind) => (Some(c.at), next(t, c)),
+        _ => (None, c),
+    }
+}
+
+fn skip_comment(t: &[u8], c: Cursor) -> (Option<usize>, Cursor)
+    requires { Wf t.now c.at }
+    ensures { Skipped t.now c (is k_comment) result }
+{
+    skip_if(t, c, |kind| kind == Kind::Comment)
+}
+
+/// Where a type stands: from `opens` on `depth` brackets, then the base, of one token or dotted, then as many brackets from `close` on.
 #[derive(Clone, Copy, Drop)]
 pub struct TypePlaces {
     pub opens: usize,
@@ -107,305 +108,209 @@ pub struct TypePlaces {
     pub close: usize,
 }
 
-#[derive(Clone, Copy, Drop)]
-pub enum TypeStep {
-    Passed(TypePlaces, Cursor),
-    Failed(u16, Cursor),
-}
-
 // Whether a dot stands at c and one more token after it.
 fn is_dotted(t: &[u8], c: Cursor) -> bool
     requires { Wf t.now c.at }
     ensures { result ≡ is_dotted (ahead t.now c) }
 {
-    if kind_or_end(t, c) != kind::DOT {
-        return false;
-    }
-    kind_or_end(t, next(t, c)) != 0
+    is_next(t, c, Kind::Dot) && !is_done(t, next(t, c))
 }
 
 // A type with no brackets.
-fn base_type(c: Cursor, dotted: bool, after: Cursor) -> TypeStep
+fn base_type(c: Cursor, dotted: bool, after: Cursor) -> (TypePlaces, Cursor)
     ensures { result ≡ base_step c dotted after }
 {
-    TypeStep::Passed(
-        TypePlaces {
-            opens: c.at,
-            depth: 0,
-            base: c.at,
-            dotted,
-            close: after.at,
-        },
-        after,
-    )
+    let places = TypePlaces {
+        opens: c.at,
+        depth: 0,
+        base: c.at,
+        dotted,
+        close: after.at,
+    };
+    (places, after)
 }
 
-fn parse_dotted(t: &[u8], c: Cursor) -> TypeStep
+fn parse_dotted(t: &[u8], c: Cursor) -> Result<(TypePlaces, Cursor), Failure>
     requires { Wf t.now c.at }
     ensures { TypeRead t.now c parse_dotted result }
 {
-    let dot = match consume_token(t, c, kind::IDENTIFIER, 10) {
-        TokenStep::Passed(after) => after,
-        TokenStep::Failed(number, at) => return TypeStep::Failed(number, at),
-    };
-    let name = match consume_token(t, dot, kind::DOT, 9) {
-        TokenStep::Passed(after) => after,
-        TokenStep::Failed(number, at) => return TypeStep::Failed(number, at),
-    };
-    match consume_token(t, name, kind::IDENTIFIER, 9) {
-        TokenStep::Passed(after) => base_type(c, true, after),
-        TokenStep::Failed(number, at) => TypeStep::Failed(number, at),
-    }
+    let dot = consume_token(t, c, Kind::Identifier, Fault::ImportBeforeDot)?;
+    let name = consume_token(t, dot, Kind::Dot, Fault::FieldType)?;
+    let after = consume_token(t, name, Kind::Identifier, Fault::FieldType)?;
+    Ok(base_type(c, true, after))
 }
 
-fn parse_single(t: &[u8], c: Cursor) -> TypeStep
+fn parse_single(t: &[u8], c: Cursor) -> Result<(TypePlaces, Cursor), Failure>
     requires { Wf t.now c.at }
     ensures { TypeRead t.now c parse_single result }
 {
-    match consume_token(t, c, kind::IDENTIFIER, 9) {
-        TokenStep::Passed(after) => base_type(c, false, after),
-        TokenStep::Failed(number, at) => TypeStep::Failed(number, at),
-    }
+    let after = consume_token(t, c, Kind::Identifier, Fault::FieldType)?;
+    Ok(base_type(c, false, after))
 }
 
-// A type that does not start with `[`.
-fn parse_base(t: &[u8], c: Cursor) -> TypeStep
-    requires { (Wf t.now c.at) × (kind_at (ahead t.now c) ≢ k_left_square) }
-    ensures { TypeRead t.now c parse_type result }
-{
-    let kind = kind_or_end(t, c);
-    if kind == 0 {
-        return TypeStep::Failed(9, c);
-    }
-    let second = next(t, c);
-    if kinds::is_plain(kind) {
-        return base_type(c, false, second);
-    }
-    if is_dotted(t, second) {
-        return parse_dotted(t, c);
-    }
-    parse_single(t, c)
-}
-
-// After `[` the inner type was read; `]` is due.
-fn parse_closing(t: &[u8], left: Cursor, inner: TypeStep) -> TypeStep
-    requires { Opened t.now left inner }
-    ensures { TypeRead t.now left parse_type result }
-{
-    match inner {
-        TypeStep::Failed(number, at) => TypeStep::Failed(number, at),
-        TypeStep::Passed(p, close) => match consume_token(t, close, kind::RIGHT_SQUARE, 11) {
-            TokenStep::Failed(number, at) => TypeStep::Failed(number, at),
-            TokenStep::Passed(after) => TypeStep::Passed(
-                TypePlaces {
-                    opens: left.at,
-                    depth: p.depth + 1,
-                    base: p.base,
-                    dotted: p.dotted,
-                    close: p.close,
-                },
-                after,
-            ),
-        },
-    }
-}
-
-fn parse_type(t: &[u8], c: Cursor) -> TypeStep
+fn parse_type(t: &[u8], c: Cursor) -> Result<(TypePlaces, Cursor), Failure>
     requires { Wf t.now c.at }
     ensures { TypeRead t.now c parse_type result }
 {
-    if kind_or_end(t, c) != kind::LEFT_SQUARE {
-        return parse_base(t, c);
+    let Some(kind) = peek(t, c) else {
+        return Err(Failure {
+            fault: Fault::FieldType,
+            at: c,
+        });
+    };
+    let second = next(t, c);
+    match kind {
+        Kind::LeftSquare => {
+            let (inner, close) = parse_type(t, second)?;
+            let after = consume_token(t, close, Kind::RightSquare, Fault::RightSquare)?;
+            let places = TypePlaces {
+                opens: c.at,
+                depth: inner.depth + 1,
+                ..inner
+            };
+            Ok((places, after))
+        }
+        _ if kind.is_plain() => Ok(base_type(c, false, second)),
+        _ if is_dotted(t, second) => parse_dotted(t, c),
+        _ => parse_single(t, c),
     }
-    let inner = parse_type(t, next(t, c));
-    parse_closing(t, c, inner)
 }
 
-// Where a field's type stands, after the colon's place.
+/// Where a field's type stands, after the colon's place.
 #[derive(Clone, Copy, Drop)]
-pub enum PartPlaces {
-    Absent,
-    Present(usize, TypePlaces),
+pub struct PartPlaces {
+    pub colon: usize,
+    pub ty: TypePlaces,
 }
 
-#[derive(Clone, Copy, Drop)]
-pub enum PartStep {
-    Passed(PartPlaces, Cursor),
-    Failed(u16, Cursor),
-}
-
-fn parse_type_part(t: &[u8], c: Cursor) -> PartStep
+fn parse_type_part(t: &[u8], c: Cursor) -> Result<(Option<PartPlaces>, Cursor), Failure>
     requires { Wf t.now c.at }
     ensures { PartRead t.now c result }
 {
-    if kind_or_end(t, c) != kind::COLON {
-        return PartStep::Passed(PartPlaces::Absent, c);
+    if !is_next(t, c, Kind::Colon) {
+        return Ok((None, c));
     }
-    match parse_type(t, next(t, c)) {
-        TypeStep::Passed(p, after) => PartStep::Passed(PartPlaces::Present(c.at, p), after),
-        TypeStep::Failed(number, at) => PartStep::Failed(number, at),
-    }
+    let (ty, after) = parse_type(t, next(t, c))?;
+    Ok((Some(PartPlaces { colon: c.at, ty }), after))
 }
 
-// Where a field stands: a comment at `first` where it is commented, a rule at `rule` where it is ruled.
+/// Where a field stands: its first token, which is the comment where there is one and else the rule or the name, and each of its tokens.
 #[derive(Clone, Copy, Drop)]
 pub struct FieldPlaces {
     pub first: usize,
-    pub commented: bool,
-    pub rule: usize,
-    pub ruled: bool,
+    pub comment: Option<usize>,
+    pub rule: Option<usize>,
     pub name: usize,
-    pub part: PartPlaces,
+    pub part: Option<PartPlaces>,
     pub equals: usize,
     pub index: usize,
 }
 
-#[derive(Clone, Copy, Drop)]
-pub enum FieldStep {
-    Passed(FieldPlaces, Cursor),
-    Failed(u16, Cursor),
-}
-
-pub fn parse_field(t: &[u8], c: Cursor) -> FieldStep
+pub fn parse_field(t: &[u8], c: Cursor) -> Result<(FieldPlaces, Cursor), Failure>
     requires { Wf t.now c.at }
     ensures { FieldRead t.now c result }
 {
-    let comment = skip_token(t, c, kind::COMMENT);
-    let rule = skip_rule(t, comment.next);
-    let colon = match consume_token(t, rule.next, kind::IDENTIFIER, 8) {
-        TokenStep::Passed(after) => after,
-        TokenStep::Failed(number, at) => return FieldStep::Failed(number, at),
+    let (comment, begin) = skip_comment(t, c);
+    let (rule, label) = skip_if(t, begin, Kind::is_rule);
+    let colon = consume_token(t, label, Kind::Identifier, Fault::Field)?;
+    let (part, equals) = parse_type_part(t, colon)?;
+    let index = consume_token(t, equals, Kind::Equals, Fault::Equals)?;
+    let after = consume_token(t, index, Kind::Integer, Fault::FieldIndex)?;
+    let places = FieldPlaces {
+        first: c.at,
+        comment,
+        rule,
+        name: label.at,
+        part,
+        equals: equals.at,
+        index: index.at,
     };
-    match parse_type_part(t, colon) {
-        PartStep::Failed(number, at) => FieldStep::Failed(number, at),
-        PartStep::Passed(part, equals) => {
-            let index = match consume_token(t, equals, kind::EQUALS, 12) {
-                TokenStep::Passed(after) => after,
-                TokenStep::Failed(number, at) => return FieldStep::Failed(number, at),
-            };
-            match consume_token(t, index, kind::INTEGER, 13) {
-                TokenStep::Failed(number, at) => FieldStep::Failed(number, at),
-                TokenStep::Passed(after) => FieldStep::Passed(
-                    FieldPlaces {
-                        first: c.at,
-                        commented: comment.there,
-                        rule: comment.next.at,
-                        ruled: rule.there,
-                        name: rule.next.at,
-                        part,
-                        equals: equals.at,
-                        index: index.at,
-                    },
-                    after,
-                ),
-            }
-        }
-    }
+    Ok((places, after))
 }
 
-// Where a declaration's head stands, up to its `{`: a comment at `first` where it is commented.
+/// Where a declaration's head stands, up to its `{`: its first token, which is the comment where there is one and else the keyword.
 #[derive(Clone, Copy, Drop)]
 pub struct HeadPlaces {
     pub first: usize,
-    pub commented: bool,
+    pub comment: Option<usize>,
     pub keyword: usize,
     pub name: usize,
 }
 
-#[derive(Clone, Copy, Drop)]
-pub enum HeadStep {
-    Passed(HeadPlaces, Cursor),
-    Failed(u16, Cursor),
-}
-
-fn name_number(keyword: u16) -> u16
-    ensures { result ≡ pick (eqb keyword k_struct) 2 3 }
+#[tactic(auto, unfolding(wire::specs::Pick::pick))]
+fn missing_name(keyword: Kind) -> Fault
+    ensures { faults.number_of result ≡ pick (eqb (number_of keyword) k_struct) 2 3 }
 {
-    if keyword == kind::STRUCT {
-        return 2;
+    match keyword {
+        Kind::Struct => Fault::StructName,
+        _ => Fault::ChoiceName,
     }
-    3
 }
 
-pub fn parse_head(t: &[u8], c: Cursor) -> HeadStep
+pub fn parse_head(t: &[u8], c: Cursor) -> Result<(HeadPlaces, Cursor), Failure>
     requires { Wf t.now c.at }
     ensures { HeadRead t.now c result }
 {
-    let comment = skip_token(t, c, kind::COMMENT);
-    let keyword = comment.next;
-    let kind = kind_or_end(t, keyword);
-    if comment.there & (kind == 0) {
-        return HeadStep::Failed(18, c);
-    }
-    if !kinds::is_keyword(kind) {
-        return HeadStep::Failed(1, keyword);
-    }
-    let name = next(t, keyword);
-    let left = match consume_token(t, name, kind::IDENTIFIER, name_number(kind)) {
-        TokenStep::Passed(after) => after,
-        TokenStep::Failed(number, at) => return HeadStep::Failed(number, at),
+    let (comment, keyword) = skip_comment(t, c);
+    let kind = match peek(t, keyword) {
+        Some(kind) if kind.is_keyword() => kind,
+        None if comment.is_some() => {
+            return Err(Failure {
+                fault: Fault::LoneComment,
+                at: c,
+            });
+        }
+        _ => return Err(Failure {
+            fault: Fault::Declaration,
+            at: keyword,
+        }),
     };
-    match consume_token(t, left, kind::LEFT_CURLY, 4) {
-        TokenStep::Failed(number, at) => HeadStep::Failed(number, at),
-        TokenStep::Passed(after) => HeadStep::Passed(
-            HeadPlaces {
-                first: c.at,
-                commented: comment.there,
-                keyword: keyword.at,
-                name: name.at,
-            },
-            after,
-        ),
-    }
+    let name = next(t, keyword);
+    let left = consume_token(t, name, Kind::Identifier, missing_name(kind))?;
+    let after = consume_token(t, left, Kind::LeftCurly, Fault::LeftCurly)?;
+    let places = HeadPlaces {
+        first: c.at,
+        comment,
+        keyword: keyword.at,
+        name: name.at,
+    };
+    Ok((places, after))
 }
 
-// Where an import stands: `import` at `first`, its path, and its last token, which is the name after `as` where it is aliased, and else the path.
+/// Where an import stands: `import` at `first`, its path, and the name after `as` where there is one.
 #[derive(Clone, Copy, Drop)]
 pub struct ImportPlaces {
     pub first: usize,
     pub path: usize,
-    pub aliased: bool,
-    pub last: usize,
+    pub alias: Option<usize>,
 }
 
-#[derive(Clone, Copy, Drop)]
-pub enum ImportStep {
-    Passed(ImportPlaces, Cursor),
-    Failed(u16, Cursor),
+impl ImportPlaces {
+    /// Its last token: the name, where there is one, and else the path.
+    pub fn last(self) -> usize
+        ensures { result ≡ last_place self }
+    {
+        self.alias.unwrap_or(self.path)
+    }
 }
 
-// At an `import`.
-pub fn parse_import(t: &[u8], c: Cursor) -> ImportStep
+/// At an `import`.
+pub fn parse_import(t: &[u8], c: Cursor) -> Result<(ImportPlaces, Cursor), Failure>
     requires { (Wf t.now c.at) × (0 < kind_at (ahead t.now c)) }
     ensures { ImportRead t.now c result }
 {
     let path = next(t, c);
-    let alias = match consume_token(t, path, kind::PATH, 6) {
-        TokenStep::Passed(after) => after,
-        TokenStep::Failed(number, at) => return ImportStep::Failed(number, at),
+    let past = consume_token(t, path, Kind::Path, Fault::ImportPath)?;
+    let places = ImportPlaces {
+        first: c.at,
+        path: path.at,
+        alias: None,
     };
-    if kind_or_end(t, alias) != kind::AS {
-        return ImportStep::Passed(
-            ImportPlaces {
-                first: c.at,
-                path: path.at,
-                aliased: false,
-                last: path.at,
-            },
-            alias,
-        );
+    if !is_next(t, past, Kind::As) {
+        return Ok((places, past));
     }
-    let name = next(t, alias);
-    match consume_token(t, name, kind::IDENTIFIER, 7) {
-        TokenStep::Failed(number, at) => ImportStep::Failed(number, at),
-        TokenStep::Passed(after) => ImportStep::Passed(
-            ImportPlaces {
-                first: c.at,
-                path: path.at,
-                aliased: true,
-                last: name.at,
-            },
-            after,
-        ),
-    }
+    let name = next(t, past);
+    let after = consume_token(t, name, Kind::Identifier, Fault::ImportName)?;
+    let alias = Some(name.at);
+    Ok((ImportPlaces { alias, ..places }, after))
 }

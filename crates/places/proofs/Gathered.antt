@@ -1,13 +1,13 @@
 -- The numbers of the Integers, gathered one by one.
 use Prim.Native.Nat.{ℕ, ◌+◌, ◌-◌, ◌*◌, ◌≤◌, ◌<◌}
 use mathlib.Core.Path.{◌≡◌, refl, sym, ap, ◌∙◌}
-use mathlib.Core.Bool.{false}
+use mathlib.Core.Bool.{true, false}
 use mathlib.Core.List.{List, [], ◌∷◌, ◌++◌, map, map-append, append-nil, append_assoc}
 use native.Mathlib.Numerals.{add-one}
 use native.Mathlib.Omega.{arith}
-use lib.ListN.{length, take, set, length-set}
+use lib.ListN.{length, take, length-set}
 use lib.Seq.{take-suc-set}
-use borrow.Author.Tests.{eq-eqb, ne_eqb}
+use borrow.Author.Tests.{eqb-true, eq-eqb}
 use Rattle.wire.specs.Bytes.{Bytes}
 use Rattle.token.specs.Token.{Token}
 use Rattle.token.specs.Kind.{k_integer}
@@ -18,6 +18,8 @@ use Rattle.grammar.specs.Reading.{is, front, skip}
 use Rattle.parser.specs.Steps.{ahead, Stepped}
 use Rattle.parser.specs.declared.Cursor.{Cursor}
 use Rattle.parser.proofs.Laws.{inside}
+use Rattle.places.specs.Filling.{Pushes}
+use Rattle.places.specs.declared.Filling.{Filling}
 use Rattle.places.specs.Places.{number_at, IsInteger, Integers, Numbers}
 
 -- the tokens at the places of a walk are the run of Integers there
@@ -43,25 +45,22 @@ there [] k = absurd (omega arith)
 there (x ∷ xs) k = omega arith
 
 -- the numbers of the places before c are collected
-pub record Gathering (t : Bytes) (from : Cursor) (items₀ items : List ℕ) (n : ℕ) (c : Cursor) : Type 0 where
+pub record Gathering (t : Bytes) (from : Cursor) (f₀ f : Filling) (c : Cursor) : Type 0 where
+  pub same : f.list.ghost_name ≡ f₀.list.ghost_name
   pub wf : Wf t c.at
   pub before : List ℕ
   pub walk : (ps : List ℕ) → Integers t c.at ps → Integers t from.at (before ++ ps)
-  pub numbers : take n items ≡ map (number_at t) before
+  pub numbers : take f.count f.list.now ≡ map (number_at t) before
   pub rest : skip (is k_integer) (ahead t c) ≡ skip (is k_integer) (ahead t from)
-  pub place : c.at ≡ from.at + 20 * n
-  pub short : n + length (ahead t c) ≤ length (ahead t from)
-  pub room : length (ahead t from) ≤ length items
-  pub size : length items ≡ length items₀
+  pub place : c.at ≡ from.at + 20 * f.count
+  pub short : f.count + length (ahead t c) ≤ length (ahead t from)
+  pub room : length (ahead t from) ≤ length f.list.now
 
-pub gathering : {t : Bytes} {from : Cursor} {items : List ℕ} → Wf t from.at → length (ahead t from) ≤ length items → Gathering t from items items 0 from
-gathering w h = record { wf = w; before = []; walk = λ ps m. m; numbers = refl; rest = refl; place = omega arith; short = omega arith; room = h; size = refl }
-
-module _ {t : Bytes} {from : Cursor} {items₀ items : List ℕ} {n : ℕ} {c : Cursor} (g : Gathering t from items₀ items n c) where
-  pub gathered : (kind_at (ahead t c) ≡ k_integer → ⊥) → Numbers t from items (record { count = n; next = c })
-  gathered k =
-      let e = ne_eqb (kind_at (ahead t c)) k_integer k in
-      record {
+module _ {t : Bytes} {from : Cursor} {f₀ f : Filling} {c : Cursor} (g : Gathering t from f₀ f c) where
+  pub gathered : is k_integer (kind_at (ahead t c)) ≡ false → (items : List ℕ) → items ≡ f.list.now
+      → Numbers t from items (record { count = f.count; next = c })
+  gathered e items i =
+      rw i (record {
         few = omega (arith, g.short, g.room);
         short = g.short;
         places = g.before;
@@ -70,27 +69,31 @@ module _ {t : Bytes} {from : Cursor} {items₀ items : List ℕ} {n : ℕ} {c : 
         rest = sym (front_stops (ahead t c) e).1 ∙ g.rest;
         wf = g.wf;
         end = g.place;
-      }
+      })
 
-  pub gather_room : kind_at (ahead t c) ≡ k_integer → n < length items
-  gather_room k = omega (arith, g.short, g.room, there (ahead t c) k)
+  module _ (k : is k_integer (kind_at (ahead t c)) ≡ true) where
+    is_integer : kind_at (ahead t c) ≡ k_integer
+    is_integer = eqb-true _ _ k
 
-  module _ (k : kind_at (ahead t c) ≡ k_integer) where
     pub integer_there : IsInteger t c.at
-    integer_there = let l = inside t c.at (omega (arith, k)) in (g.wf, l, rw (tokens_step t c.at l) at k)
+    integer_there = let l = inside t c.at (omega (arith, is_integer)) in (g.wf, l, rw (tokens_step t c.at l) at is_integer)
 
-    pub gather_more : {d : Cursor} → Stepped t c d → Gathering t from items₀ (set items n (number_at t c.at)) (n + 1) d
-    gather_more {d} p =
+    pub gather_room : f.count < length f.list.now
+    gather_room = omega (arith, g.short, g.room, there (ahead t c) is_integer)
+
+    pub gather_more : {d : Cursor} {f' : Filling} → Stepped t c d → Pushes f (number_at t c.at) f' → Gathering t from f₀ f' d
+    gather_more {d} {f'} p q =
         let i = integer_there in
         let s = front_step (tok_at t c.at) (ahead t d) i.2 in
+        let l = ap length q.list ∙ length-set f.list.now f.count (number_at t c.at) in
         record {
+          same = q.same ∙ g.same;
           wf = p.wf;
           before = g.before ++ (c.at ∷ []);
           walk = λ ps m. rw append_assoc (g.walk (c.at ∷ ps) (refl, i, rw p.place at m));
-          numbers = rw (add-one, take-suc-set items n (number_at t c.at) (gather_room k), map-append, g.numbers);
+          numbers = rw (q.count, q.list, add-one, take-suc-set f.list.now f.count (number_at t c.at) gather_room, map-append, g.numbers);
           rest = rw (p.first, s.1) at g.rest;
-          place = omega (arith, g.place, p.place, next_is i.0 i.1, integer_size i.0 i.1 i.2);
-          short = omega (arith, g.short, ap length p.first);
-          room = omega (arith, g.room, length-set items n (number_at t c.at));
-          size = length-set items n (number_at t c.at) ∙ g.size;
+          place = omega (arith, g.place, p.place, q.count, next_is i.0 i.1, integer_size i.0 i.1 i.2);
+          short = omega (arith, g.short, q.count, ap length p.first);
+          room = omega (arith, g.room, l);
         }

@@ -14,9 +14,10 @@ use Rattle.grammar.specs.Meaning.{import_of, comes_before}
 use Rattle.grammar.specs.Condition.{any_of, same_import}
 use Rattle.grammar.specs.Reading.{Reading}
 use Rattle.parser.specs.Steps.{ahead}
-use Rattle.sorted.specs.Item.{place_of, item_before, same_item, IsItem, Items}
+use Rattle.sorted.specs.Item.{place_of, names}
+use Rattle.sorted.specs.Order.{Items}
+use Rattle.sorted.specs.Laws.{names_lawful}
 use Rattle.sorted.specs.Sorted.{any_next, any_taken, Repeats}
-use Rattle.sorted.specs.declared.Key.TheVariants.{Name}
 use Rattle.sorted.proofs.Each.{each_sort}
 use Rattle.sorted.proofs.Mapped.{sort_map, any_map}
 use Rattle.sorted.proofs.Theorems.{repeat_taken}
@@ -35,16 +36,15 @@ taken_map f is_same before [] = refl
 taken_map f is_same before (x ∷ xs) = ap₂ ◌||◌ (any_map f (is_same (f x)) before) (taken_map f is_same (x ∷ before) xs)
 
 module _ (t : Bytes) where
-  trees_taken : (xs : List ℕ) → any_taken same_import [] (map (tree_at t) xs) ≡ any_next (same_item t Name) (sort_by (item_before t Name) xs)
-  unfolding same_item
-  trees_taken xs = taken_map (tree_at t) same_import [] xs ∙ sym (repeat_taken t Name xs)
+  trees_taken : (xs : List ℕ) → any_taken same_import [] (map (tree_at t) xs) ≡ any_next (names t).same_item (sort_by (names t).item_before xs)
+  trees_taken xs = taken_map (tree_at t) same_import [] xs ∙ sym (repeat_taken (names_lawful t) xs)
 
-  trees_sorted : (xs : List ℕ) → map (λ x. import_of (tree_at t x)) (sort_by (item_before t Name) xs) ≡ sort_by comes_before (map import_of (map (tree_at t) xs))
-  unfolding item_before
+  trees_sorted : (xs : List ℕ)
+      → map (λ x. import_of (tree_at t x)) (sort_by (names t).item_before xs) ≡ sort_by comes_before (map import_of (map (tree_at t) xs))
   trees_sorted xs = rw (map-map import_of (tree_at t) xs) (sort_map (λ (x : ℕ). import_of (tree_at t x)) comes_before xs)
 
-  each_named : (xs : List ℕ) → All (λ x. Is k_import (tok_at t (place_of x))) xs → Items t Name xs → any_of (lacks_name t) xs ≡ false → All (NamedHere t) xs
-  unfolding lacks_name IsItem
+  each_named : (xs : List ℕ) → All (λ x. Is k_import (tok_at t (place_of x))) xs → Items (names t) xs → any_of (lacks_name t) xs ≡ false → All (NamedHere t) xs
+  unfolding lacks_name
   each_named [] k i n = tt
   each_named (x ∷ xs) k i n =
       let n' = (or-eq-false-iff (lacks_name t x) (any_of (lacks_name t) xs)).0 n in
@@ -54,8 +54,8 @@ module _ {t : Bytes} {imports : List ℕ} {r : Ordered} (o : Orders t imports r)
   abbrev pub reading : ℕ → Reading (List ImportTree)
   reading end = imports_after t r.from.at end []
 
-  pub orders_told : Repeats t Name o.items (pick r.repeated imports [])
-  orders_told = rw o.list (told t Name r.repeated o.items (walk_items o.walk) o.repeat)
+  pub orders_told : Repeats (names t) o.items (pick r.repeated imports [])
+  orders_told = rw o.list (told (names_lawful t) r.repeated o.items (walk_items o.walk) o.repeat)
 
   module _ (end : ℕ) where
     pub orders_rest : (reading end).rest ≡ ahead t r.next
@@ -68,14 +68,14 @@ module _ {t : Bytes} {imports : List ℕ} {r : Ordered} (o : Orders t imports r)
         walk_sound o.walk end [] a.0 (not_true b.0) (trees_taken t o.items ∙ sym o.repeat ∙ not_true b.1)
 
     module _ (e : (reading end).errors ≡ []) where
-      in_order_lem : imports ≡ sort_by (item_before t Name) o.items
+      in_order_lem : imports ≡ sort_by (names t).item_before o.items
       unfolding pick
       in_order_lem = let u : r.repeated ≡ false = o.repeat ∙ sym (trees_taken t o.items) ∙ (walk_clear o.walk end [] e).1 in o.list ∙ rw u
 
       pub orders_each : All (NamedHere t) imports
       orders_each =
           rw in_order_lem
-          (each_sort (NamedHere t) (item_before t Name) o.items (each_named t o.items (walk_keywords o.walk) (walk_items o.walk)
+          (each_sort (NamedHere t) (names t).item_before o.items (each_named t o.items (walk_keywords o.walk) (walk_items o.walk)
           (walk_clear o.walk end [] e).0))
 
       pub orders_sorted : map (λ x. import_of (tree_at t x)) imports ≡ sort_by comes_before (map import_of (reading end).value)

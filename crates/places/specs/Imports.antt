@@ -1,5 +1,5 @@
 -- The imports of a token table, past the schema's comment, and what putting them in order promises.
-use Rattle.std.specs.Prelude.{ℕ, ◌≤◌, ◌<◌, ◌≡◌, Bool, true, false, not, ◌&&◌, List, [], ◌∷◌, length, take}
+use Rattle.std.specs.Prelude.{ℕ, ◌≤◌, ◌<◌, ◌≡◌, Bool, true, false, not, ◌&&◌, List, [], ◌∷◌, length, take, Option, is_some}
 use Rattle.wire.specs.Bytes.{Bytes}
 use Rattle.token.specs.Kind.{k_import}
 use Rattle.token.specs.Token.{Token}
@@ -10,14 +10,13 @@ use Rattle.grammar.specs.Meaning.{is_nameless}
 use Rattle.grammar.specs.Error.{kind_at}
 use Rattle.grammar.specs.Condition.{Named, any_of}
 use Rattle.grammar.specs.Reading.{fail, is, parse_import, parse_opening}
-use Rattle.parser.specs.Trees.{when}
+use Rattle.parser.specs.Trees.{token_there}
+use Rattle.parser.specs.Laid.{place_if}
 use Rattle.parser.specs.Steps.{ahead}
 use Rattle.parser.specs.declared.Cursor.{Cursor}
-use Rattle.parser.specs.declared.Skip.{Skip}
 use Rattle.records.specs.Here.{CommentHere}
-use Rattle.sorted.specs.Item.{import_at, place_of, item_before, same_item, IsToken, IsImport, IsNamed, NamedAt}
+use Rattle.sorted.specs.Item.{import_at, place_of, names, IsToken, IsImport, IsNamed, NamedAt}
 use Rattle.sorted.specs.Sorted.{any_next}
-use Rattle.sorted.specs.declared.Key.TheVariants.{Name}
 use Rattle.places.specs.Places.{in_order}
 use Rattle.places.specs.declared.Walked.{Walked}
 use Rattle.places.specs.declared.Ordered.{Ordered}
@@ -28,11 +27,12 @@ pub record Room (ts : List Token) (items spare : List ℕ) : Type 0 where
   pub work : length ts ≤ length spare
 
 -- the schema's comment, where there is one, and the cursor past it
-pub record Opening (t : Bytes) (r : Skip) : Type 0 where
-  pub read : parse_opening (tokens_from t 0) ≡ record { errors = []; value = when r.there (tok_at t 0); rest = ahead t r.next }
-  pub comment : CommentHere t 0 r.there
-  pub short : length (ahead t r.next) ≤ length (tokens_from t 0)
-  pub wf : Wf t r.next.at
+pub record Opening (t : Bytes) (r : Option ℕ × Cursor) : Type 0 where
+  pub read : parse_opening (tokens_from t 0) ≡ record { errors = []; value = token_there t r.0; rest = ahead t r.1 }
+  pub comment : CommentHere t r.0
+  pub place : r.0 ≡ place_if (is_some r.0) 0
+  pub short : length (ahead t r.1) ≤ length (tokens_from t 0)
+  pub wf : Wf t r.1.at
 
 -- `import` stands at a place
 pub record Keyword (t : Bytes) (at : ℕ) : Type 0 where
@@ -70,13 +70,13 @@ pub record Walks (t : Bytes) (from : Cursor) (items : List ℕ) (r : Walked) : T
 
 -- the imports past the schema's comment, in order; r is sound where there is no error in them
 pub record Orders (t : Bytes) (imports : List ℕ) (r : Ordered) : Type 0 where
-  pub opening : Opening t (record { there = r.comment; next = r.from })
+  pub opening : Opening t (r.comment, r.from)
   pub whole : Bool
   pub items : List ℕ
   pub walk : Imports t r.from.at whole items r.next.at
-  pub repeat : r.repeated ≡ any_next (same_item t Name) (sort_by (item_before t Name) items)
+  pub repeat : r.repeated ≡ any_next (names t).same_item (sort_by (names t).item_before items)
   pub sound : r.sound ≡ (whole && (not (any_of (lacks_name t) items) && not r.repeated))
-  pub list : imports ≡ in_order t Name r.repeated items
+  pub list : imports ≡ in_order (names t) r.repeated items
   pub few : length imports ≤ length (tokens_from t 0)
   pub wf : Wf t r.next.at
 

@@ -1,15 +1,33 @@
 // What is collected from a table for sorting: the numbers of the Integers from a cursor on, and the imports.
 #![tactic(auto)]
 
-ghost use Rattle.std.specs.Prelude.{◌≤◌, length};
+ghost use Rattle.std.specs.Prelude.{◌≤◌, ◌<◌, length};
 ghost use Rattle.token.specs.Places.{tokens_from, Wf};
 ghost use Rattle.parser.specs.Steps.{ahead};
+ghost use Rattle.places.specs.Filling.{Pushes};
 ghost use Rattle.places.specs.Places.{Numbers, Sortable, Arranges};
 ghost use Rattle.places.specs.Imports.{Room, Opening, Walks, OrdersIn};
 
-use parser::{Cursor, ImportStep, Skip, kind_or_end, kinds, next};
-use sorted::Key;
-use token::kind;
+use parser::{Cursor, is_next, next, peek};
+use sorted::{Keyed, Names};
+use token::kind::Kind;
+
+// A lent list that fills up from its start on: its first `count` numbers are filled in.
+#[derive(Drop)]
+struct Filling<'a> {
+    list: &'a mut [u64],
+    count: usize,
+}
+
+impl<'a> Filling<'a> {
+    fn push(&mut self, x: u64)
+        requires { self.old.count < length self.old.list.now }
+        ensures { Pushes self.old x self.new }
+    {
+        self.list[self.count] = x;
+        self.count += 1;
+    }
+}
 
 // How many items were collected, and the cursor past what stands there.
 #[derive(Clone, Copy, Drop)]
@@ -22,45 +40,41 @@ pub fn collect_numbers(t: &[u8], from: Cursor, items: &mut [u64]) -> Collected
     requires { (Wf t.now from.at) × (length (ahead t.now from) ≤ length items.old) }
     ensures { Numbers t.now from items.new result }
 {
-    let mut n: usize = 0;
+    let mut numbers = Filling {
+        list: items,
+        count: 0,
+    };
     let mut c = from;
-    while kind_or_end(t, c) == kind::INTEGER {
-        items[n] = token::integer_at(t, c.at);
-        n += 1;
+    while is_next(t, c, Kind::Integer) {
+        let number = token::integer_at(t, c.at);
+        numbers.push(number);
         c = next(t, c);
     }
-    Collected { count: n, next: c }
+    Collected {
+        count: numbers.count,
+        next: c,
+    }
 }
 
-// Whether the first token is the schema's comment, and the cursor past that.
-pub fn skip_opening(t: &[u8]) -> Skip
+// The place of the schema's comment, where the first token is that, and the cursor past it.
+pub fn skip_opening(t: &[u8]) -> (Option<usize>, Cursor)
     requires { Wf t.now 0 }
     ensures { Opening t.now result }
 {
     let c = Cursor { at: 0 };
-    if kind_or_end(t, c) != kind::COMMENT {
-        return Skip {
-            there: false,
-            next: c,
-        };
+    if !is_next(t, c, Kind::Comment) {
+        return (None, c);
     }
     let past = next(t, c);
-    if !kinds::is_keyword(kind_or_end(t, past)) {
-        return Skip {
-            there: true,
-            next: past,
-        };
-    }
-    let at = past.at;
-    if token::end_at(t, 0) as u64 + 1 < token::start_at(t, at) as u64 {
-        return Skip {
-            there: true,
-            next: past,
-        };
-    }
-    Skip {
-        there: false,
-        next: c,
+    match peek(t, past) {
+        Some(kind) if kind.is_keyword() => {
+            if token::end_at(t, 0) as u64 + 1 < token::start_at(t, past.at) as u64 {
+                (Some(0), past)
+            } else {
+                (None, c)
+            }
+        }
+        _ => (Some(0), past),
     }
 }
 
@@ -77,29 +91,29 @@ fn collect_imports(t: &[u8], from: Cursor, items: &mut [u64]) -> Walked
     requires { (Wf t.now from.at) × (length (ahead t.now from) ≤ length items.old) }
     ensures { Walks t.now from items.new result }
 {
+    let mut imports = Filling {
+        list: items,
+        count: 0,
+    };
     let mut sound = true;
-    let mut n: usize = 0;
     let mut c = from;
-    while kind_or_end(t, c) == kind::IMPORT {
+    while is_next(t, c, Kind::Import) {
         match parser::parse_import(t, c) {
-            ImportStep::Failed(_, at) => {
-                sound = false;
-                c = at;
-            }
-            ImportStep::Passed(_, after) => {
+            Ok((_, after)) => {
                 let x = sorted::item_at(t, c.at);
-                if sorted::name_of(t, x).len() == 0 {
-                    sound = false;
-                }
-                items[n] = x;
-                n += 1;
+                sound &= !sorted::name_of(t, x).is_empty();
+                imports.push(x);
                 c = after;
+            }
+            Err(failure) => {
+                sound = false;
+                c = failure.at;
             }
         }
     }
     Walked {
         sound,
-        count: n,
+        count: imports.count,
         next: c,
     }
 }
@@ -112,13 +126,13 @@ pub struct Arranged {
 }
 
 // The first n items, in order or, where two are the same, those that are the same as the one in front of them.
-pub fn arrange(t: &[u8], key: Key, items: &mut [u64], spare: &mut [u64], n: usize) -> Arranged
-    requires { Sortable t.now key n items.old spare.old }
-    ensures { Arranges t.now key n items.old items.new result }
+pub fn arrange<K: Keyed>(by: &K, items: &mut [u64], spare: &mut [u64], n: usize) -> Arranged
+    requires { Sortable (K.order by.now) n items.old spare.old }
+    ensures { Arranges (K.order by.now) n items.old items.new result }
 {
-    if sorted::sort(t, key, &mut items[..n], spare) {
+    if sorted::sort(by, &mut items[..n], spare) {
         return Arranged {
-            count: sorted::keep_repeats(t, key, &mut items[..n]),
+            count: sorted::keep_repeats(by, &mut items[..n]),
             repeated: true,
         };
     }
@@ -132,7 +146,7 @@ pub fn arrange(t: &[u8], key: Key, items: &mut [u64], spare: &mut [u64], n: usiz
 // name, and whether there is no error in them; and the cursor past them.
 #[derive(Clone, Copy, Drop)]
 pub struct Ordered {
-    pub comment: bool,
+    pub comment: Option<usize>,
     pub from: Cursor,
     pub count: usize,
     pub repeated: bool,
@@ -145,14 +159,13 @@ pub fn order_imports(t: &[u8], items: &mut [u64], spare: &mut [u64]) -> Ordered
     requires { (Wf t.now 0) × (Room (tokens_from t.now 0) items.old spare.old) }
     ensures { OrdersIn t.now items.new result }
 {
-    let comment = skip_opening(t);
-    let from = comment.next;
+    let (comment, from) = skip_opening(t);
     let walked = collect_imports(t, from, items);
-    let arranged = arrange(t, Key::Name, items, spare, walked.count);
+    let arranged = arrange(&Names { table: t }, items, spare, walked.count);
     let repeated = arranged.repeated;
     let next = walked.next;
     Ordered {
-        comment: comment.there,
+        comment,
         from,
         count: arranged.count,
         repeated,

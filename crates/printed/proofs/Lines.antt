@@ -1,39 +1,51 @@
--- The lines of an error list, one record at a time.
-use Prim.Native.Nat.{ℕ, zero, suc, ◌+◌, ◌*◌, ◌-◌, ◌/◌, ◌≤◌, ◌<◌}
-use mathlib.Core.Path.{◌≡◌, refl, ◌∙◌}
-use mathlib.Core.List.{[], ◌++◌}
-use native.Mathlib.Numerals.{sub-one}
+-- The lines of an error list, one record at a time: what the loop over the records keeps.
+use Prim.Native.Nat.{ℕ, suc, ◌+◌, ◌/◌, ◌≤◌, ◌<◌}
+use mathlib.Core.Path.{◌≡◌, sym, ap, ◌∙◌}
+use mathlib.Core.List.{◌++◌}
 use native.Mathlib.Omega.{arith}
-use lib.ListN.{length}
+use lib.ListN.{length, drop, length-append, length-drop}
+use lib.Seq.{drop-drop}
+use Rattle.std.proofs.Math.Seq.{drop-append_seam}
+use Rattle.std.proofs.lemmas.List.{take-append-le, drop-append-le}
 use Rattle.wire.specs.Bytes.{Bytes}
-use Rattle.wire.specs.Put.{Wrote}
-use Rattle.wire.proofs.Laws.{Rest, rest_all, rest_step, rest_none, wrote_length}
+use Rattle.wire.specs.Le.{le_at}
+use Rattle.wire.specs.Puts.{Puts}
+use Rattle.wire.specs.declared.Writer.{Writer}
+use Rattle.wire.proofs.Puts.{Rest, rest_all, rest_step, rest_none}
 use Rattle.printed.specs.Printed.{error_line, error_lines}
 
-lines_step : (left : ℕ) (list : Bytes) (at : ℕ) → 0 < left → error_lines left list at ≡ error_line list at ++ error_lines (left - 1) list (at + 14)
+-- a number within a record is the one in the list
+number_at : (k j : ℕ) (list error rest : Bytes) (at : ℕ) → drop at list ≡ error ++ rest → j + k ≤ length error → le_at k list (at + j) ≡ le_at k error j
+unfolding le_at
+number_at k j list error rest at e h =
+    let d : drop (at + j) list ≡ drop j error ++ rest = sym (drop-drop j at list) ∙ ap (drop j) e ∙ drop-append-le j error rest (omega arith) in
+    rw (d, take-append-le k (drop j error) rest (omega (arith, length-drop j error)))
+
+-- the lines of the records from `at` on are still to be put
+pub record Lines (list : Bytes) (w₀ w : Writer) (rest : Bytes) : Type 0 where
+  pub at : ℕ
+  pub here : drop at list ≡ rest
+  pub left : Rest w (error_lines (length rest / 14) list at) w₀ (error_lines (length list / 14) list 0)
+
+pub lines_all : {list rest : Bytes} {w : Writer} → rest ≡ list → Lines list w w rest
+lines_all e = record { at = 0; here = sym e; left = rw e rest_all }
+
+pub lines_more : {list : Bytes} (error rest : Bytes) {w₀ w w' : Writer} → Lines list w₀ w (error ++ rest) → length error ≡ 14 → Puts w (error_line error 0) w'
+    → Lines list w₀ w' rest
 unfolding error_lines
-lines_step zero list at h = absurd (omega arith)
-lines_step (suc left) list at h = rw sub-one
+lines_more {list} error rest g l p =
+    let n : length (error ++ rest) / 14 ≡ suc (length rest / 14) = omega (arith, length-append error rest) in
+    let d : drop 14 (error ++ rest) ≡ rest = rw l at (drop-append_seam error rest) in
+    let same = λ (k j : ℕ) (h : j + k ≤ length error). number_at k j list error rest g.at g.here h in
+    record {
+      at = g.at + 14;
+      here = sym (drop-drop 14 g.at list) ∙ ap (drop 14) g.here ∙ d;
+      left =
+          rest_step p g.left (rw (n, same 2 2 (omega arith), same 4 4 (omega arith), same 4 8 (omega arith), same 2 12 (omega arith)));
+    }
 
--- the lines of the records from `at` on are still to be written
-pub record Lines (list : Bytes) (left at : ℕ) (out₀ out : Bytes) (to : ℕ) : Type 0 where
-  pub rest : Rest out to (error_lines left list at) out₀ 0 (error_lines (length list / 14) list 0)
-  pub inside : at + 14 * left ≤ length list
-  pub size : length out ≡ length out₀
-
-pub lines_all : {list out : Bytes} → Lines list (length list / 14) 0 out out 0
-lines_all = record { rest = rest_all; inside = omega arith; size = refl }
-
-pub lines_more : {list : Bytes} {left at : ℕ} {out₀ out : Bytes} {to : ℕ} {out' : Bytes} {to' : ℕ} → Lines list left at out₀ out to → 0 < left
-    → Wrote out to (error_line list at) out' to' → Lines list (left - 1) (at + 14) out₀ out' to'
-lines_more {list} {left} {at} g h w =
-    record { rest = rest_step w g.rest (lines_step left list at h); inside = omega (arith, g.inside); size = wrote_length w ∙ g.size }
-
-lines_end : (left : ℕ) (list : Bytes) (at : ℕ) → left ≤ 0 → error_lines left list at ≡ []
+pub lines_none : {list rest : Bytes} {w₀ w : Writer} → Lines list w₀ w rest → length rest < 14 → Puts w₀ (error_lines (length list / 14) list 0) w
 unfolding error_lines
-lines_end zero list at h = refl
-lines_end (suc left) list at h = absurd (omega arith)
-
-pub lines_none : {list : Bytes} {left at : ℕ} {out₀ out : Bytes} {to : ℕ} → Lines list left at out₀ out to → left ≤ 0
-    → Wrote out₀ 0 (error_lines (length list / 14) list 0) out to
-lines_none {list} {left} {at} g h = rest_none g.rest (lines_end left list at h)
+lines_none {rest = rest} g h =
+    let n : length rest / 14 ≡ 0 = omega arith in
+    rest_none g.left (rw n)

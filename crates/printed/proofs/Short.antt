@@ -5,18 +5,16 @@ use mathlib.Core.Path.{◌≡◌, refl, sym, ◌∙◌}
 use mathlib.Core.Bool.{Bool, true, false}
 use mathlib.Core.Option.{Option, none, some}
 use mathlib.Core.List.{List, [], ◌∷◌, ◌++◌}
-use native.Mathlib.Nat.{pow-succ'}
 use native.Mathlib.Numerals.{sub-one}
 use native.Mathlib.Omega.{arith}
 use lib.Dec.{leb, ltb}
 use lib.ListN.{length, take, drop, length-append, length-drop, length-take}
-use borrow.Author.Tests.{leb-true, lt-ltb, ltb-true, ltb-false}
+use borrow.Author.Tests.{leb-true, lt-ltb, ltb-false}
 use Rattle.wire.specs.Bytes.{Bytes}
 use Rattle.wire.specs.Le.{le_bytes, le_at}
-use Rattle.wire.specs.Decimal.{decimal}
 use Rattle.wire.specs.Pick.{pick}
 use Rattle.wire.specs.Record.{head_bytes, record_bytes}
-use Rattle.wire.proofs.Numbers.{AllBytes, decimal_small, decimal_step}
+use Rattle.wire.proofs.Numbers.{AllBytes}
 use Rattle.token.specs.Token.{Token}
 use Rattle.token.specs.Table.{size_of, token_of, row_after, token_fault, fault_of, Decoded, refused, tokens, add_token, decode_from, decode}
 use Rattle.token.proofs.Records.{good, decode_end, decode_full, decode_bad, decode_next}
@@ -26,6 +24,7 @@ use Rattle.schema.specs.Encode.{encode_schema}
 use Rattle.schema.specs.Decode.{decode_schema}
 use Rattle.schema.proofs.Parts.{le_at_small}
 use Rattle.text.specs.Text.{text_of}
+use Rattle.text.proofs.Short.{decimal_short}
 use Rattle.grammar.specs.Error.{Error, error_bytes, errors_bytes}
 use Rattle.grammar.specs.Meaning.{schema_of}
 use Rattle.grammar.specs.Reading.{parse, parse_schema}
@@ -33,14 +32,6 @@ use Rattle.grammar.specs.Answer.{Answer, answer_of, bytes_of, fitted, read_answe
 use Rattle.grammar.proofs.Count.{errors_short}
 use Rattle.grammar.proofs.Outcomes.{parse_schema_lem, parse_errors, read_refused, read_tokens}
 use Rattle.printed.specs.Printed.{spaced, refusal_line, error_text, error_line, error_lines, text_printed, schema_printed, answer_printed, printed, Prints}
-
-decimal_short : (k n : ℕ) → n < 10 ^ suc k → length (decimal n) ≤ suc k
-decimal_short zero n h = rw (decimal_small n (omega arith)) (omega arith)
-decimal_short (suc k) n h = go (decimal_short k (n / 10) (omega (arith, rw pow-succ' at h))) (ltb n 10) refl
-  where
-    go : length (decimal (n / 10)) ≤ suc k → (b : Bool) → ltb n 10 ≡ b → length (decimal n) ≤ suc (suc k)
-    go i true e = rw (decimal_small n (ltb-true n 10 e)) (omega arith)
-    go i false e = rw (decimal_step n (ltb-false n 10 e), length-append) (omega arith)
 
 spaced_short : (k n : ℕ) → n < 10 ^ suc k → length (spaced n) ≤ suc (suc k)
 unfolding spaced

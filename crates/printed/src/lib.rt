@@ -1,70 +1,82 @@
 // What typefmt prints of a token table: the canonical text, a line for each error, or the line of a refusal.
 #![tactic(auto)]
 
-ghost use Rattle.std.specs.Prelude.{◌+◌, ◌≤◌, ◌/◌, ◌≡◌, length};
+ghost use Rattle.std.specs.Prelude.{◌≤◌, ◌/◌, ◌≡◌, length};
 ghost use Rattle.wire.specs.Put.{Wrote};
+ghost use Rattle.wire.specs.Puts.{Puts};
+ghost use Rattle.wire.specs.Refusal.{number_of};
 ghost use Rattle.printed.specs.Printed.{spaced, refusal_line, error_line, error_lines, schema_printed, Prints};
 
 use reader::Answer;
-use writer::Written;
+use wire::{Refused, Writer};
 
 const ROOM: usize = 65536;
 
-fn put_spaced(out: &mut [u8], at: usize, n: u64) -> usize
-    ensures { Wrote out.old at (spaced n) out.new result }
+fn put_spaced(w: &mut Writer, n: u64)
+    ensures { Puts w.old (spaced n) w.new }
 {
-    let a = wire::put_byte(out, at, b' ');
-    wire::put_decimal(out, a, n)
+    w.put_byte(b' ');
+    w.put_decimal(n);
 }
 
-fn put_refusal(out: &mut [u8], at: usize, number: u16, offset: usize) -> usize
-    ensures { Wrote out.old at (refusal_line number offset) out.new result }
+fn put_refusal(w: &mut Writer, refused: Refused)
+    ensures { Puts w.old (refusal_line (number_of refused.refusal) refused.offset) w.new }
 {
-    let a = wire::put_byte(out, at, b'R');
-    let b = put_spaced(out, a, number as u64);
-    let c = put_spaced(out, b, offset as u64);
-    wire::put_byte(out, c, b'\n')
+    w.put_byte(b'R');
+    put_spaced(w, u64::from(refused.refusal.number()));
+    put_spaced(w, refused.offset as u64);
+    w.put_byte(b'\n');
 }
 
-// The record at this place of an error list.
-fn put_error_line(out: &mut [u8], to: usize, list: &[u8], at: usize) -> usize
-    requires { at + 14 ≤ length list.now }
-    ensures { Wrote out.old to (error_line list.now at) out.new result }
+// The line of an error, from its record.
+fn put_error_line(w: &mut Writer, error: &[u8])
+    requires { 14 ≤ length error.now }
+    ensures { Puts w.old (error_line error.now 0) w.new }
 {
-    let number = wire::u16_at(list, at + 2);
-    let start = wire::u32_at(list, at + 4);
-    let end = wire::u32_at(list, at + 8);
-    let found = wire::u16_at(list, at + 12);
-    let a = wire::put_byte(out, to, b'E');
-    let b = put_spaced(out, a, number as u64);
-    let c = put_spaced(out, b, start as u64);
-    let d = put_spaced(out, c, end as u64);
-    let e = put_spaced(out, d, found as u64);
-    wire::put_byte(out, e, b'\n')
+    let number = wire::u16_at(error, 2);
+    let start = wire::u32_at(error, 4);
+    let end = wire::u32_at(error, 8);
+    let found = wire::u16_at(error, 12);
+    w.put_byte(b'E');
+    put_spaced(w, number as u64);
+    put_spaced(w, start as u64);
+    put_spaced(w, end as u64);
+    put_spaced(w, found as u64);
+    w.put_byte(b'\n');
 }
 
-fn put_error_lines(out: &mut [u8], list: &[u8]) -> usize
+fn put_error_lines(w: &mut Writer, list: &[u8])
+    ensures { Puts w.old (error_lines (length list.now / 14) list.now 0) w.new }
+{
+    for error in list.chunks_exact(14) {
+        put_error_line(w, error);
+    }
+}
+
+fn print_refusal(refused: Refused, out: &mut [u8]) -> usize
+    ensures { Wrote out.old 0 (refusal_line (number_of refused.refusal) refused.offset) out.new result }
+{
+    let mut w = Writer::new(out);
+    put_refusal(&mut w, refused);
+    w.at
+}
+
+fn print_errors(list: &[u8], out: &mut [u8]) -> usize
     ensures { Wrote out.old 0 (error_lines (length list.now / 14) list.now 0) out.new result }
 {
-    let mut left = list.len() / 14;
-    let mut at: usize = 0;
-    let mut to: usize = 0;
-    while 0 < left {
-        to = put_error_line(out, to, list, at);
-        at += 14;
-        left -= 1;
-    }
-    to
+    let mut w = Writer::new(out);
+    put_error_lines(&mut w, list);
+    w.at
 }
 
 // The text of a schema table; of the buffer no more is lent than the answer may have.
-fn put_schema(out: &mut [u8], t: &[u8]) -> usize
+fn print_schema(t: &[u8], out: &mut [u8]) -> usize
     requires { 65536 ≤ length out.old }
     ensures { Wrote out.old 0 (schema_printed t.now) out.new result }
 {
     match writer::write(t, &mut out[..ROOM]) {
-        Written::Refused(number, offset) => put_refusal(out, 0, number, offset),
-        Written::Text(n) => n,
+        Ok(n) => n,
+        Err(refused) => print_refusal(refused, out),
     }
 }
 
@@ -73,9 +85,9 @@ fn print_into(t: &[u8], schema: &mut [u8], text: &mut [u8]) -> usize
     ensures { Prints t.now schema.old schema.new text.old text.new result }
 {
     match reader::read(t, schema) {
-        Answer::Refused(number, offset) => put_refusal(text, 0, number, offset),
-        Answer::Errors(n) => put_error_lines(text, &schema[..n]),
-        Answer::Schema(n) => put_schema(text, &schema[..n]),
+        Ok(Answer::Schema(n)) => print_schema(&schema[..n], text),
+        Ok(Answer::Errors(n)) => print_errors(&schema[..n], text),
+        Err(refused) => print_refusal(refused, text),
     }
 }
 

@@ -9,7 +9,11 @@ use borrow.Author.Tests.{le-leb}
 use lib.Dec.{leb}
 use lib.ListN.{length, drop}
 use Rattle.wire.specs.Bytes.{Bytes}
+use Rattle.std.specs.Prelude.{Ok, Err}
 use Rattle.wire.specs.Pick.{pick}
+use Rattle.wire.specs.Refusal.{number_of, refused_by}
+use Rattle.wire.specs.declared.Refused.{Refused}
+use Rattle.wire.specs.declared.Refusal.TheVariants.{NoRoom}
 use Rattle.token.specs.Token.{Token}
 use Rattle.token.specs.Table.{refused, tokens, decode_from, decode}
 use Rattle.schema.specs.Encode.{encode_schema}
@@ -21,9 +25,8 @@ use Rattle.grammar.specs.Answer as reading
 use Rattle.wire.specs.Put.{Wrote, over}
 use Rattle.wire.proofs.Laws.{adv_is, over_fits}
 use Rattle.token.specs.Places.{tokens_from}
-use Rattle.token.specs.Checked.{checked}
+use Rattle.token.specs.Checked.{numbered, checked}
 use Rattle.token.specs.declared.Checked as token
-use Rattle.token.specs.declared.Checked.TheVariants.{Fine}
 use Rattle.token.proofs.Walk.{fine, refusal}
 use Rattle.grammar.proofs.Count.{errors_length, errors_at_most_tokens}
 use Rattle.grammar.proofs.Outcomes.{parse_schema_lem, parse_errors, read_refused, read_tokens}
@@ -31,9 +34,9 @@ use Rattle.places.specs.Imports.{Orders}
 use Rattle.places.specs.declared.Ordered.{Ordered}
 use Rattle.judge.specs.Judges.{Judgeable}
 use Rattle.reader.specs.Answers.{Answers, Checked, Ready, Clean}
-use Rattle.reader.specs.declared.Answer.TheVariants.{Refused, Schema, Errors}
+use Rattle.reader.specs.declared.Answer.TheVariants.{Schema, Errors}
 
-pub turned_away : (t o : Bytes) {number offset : ℕ} → decode t ≡ refused number offset → Answers t o o (Refused number offset)
+pub turned_away : (t o : Bytes) {r : Refused} → decode t ≡ refused (number_of r.refusal) r.offset → Answers t o o (Err r)
 turned_away t o d = let a = read_refused t (length o) d in record { answer = rw a; buffer = rw a }
 
 -- where the table decodes to tokens that parse to an outcome
@@ -41,7 +44,7 @@ module _ (t o : Bytes) {ts : List Token} (d : decode t ≡ tokens ts) {out : Out
   fitted_is : read_answer t (length o) ≡ fitted (length o) (answer_of out)
   fitted_is = read_tokens t (length o) d ∙ rw p
 
-  pub too_long : leb (length (bytes_of (answer_of out))) (length o) ≡ false → Answers t o o (Refused 8 0)
+  pub too_long : leb (length (bytes_of (answer_of out))) (length o) ≡ false → Answers t o o (Err (refused_by NoRoom))
   unfolding fitted pick
   too_long e = let a : read_answer t (length o) ≡ reading.Answer.refusal 8 0 = fitted_is ∙ rw e in record { answer = rw a; buffer = rw a }
 
@@ -51,20 +54,20 @@ module _ (t o : Bytes) {ts : List Token} (d : decode t ≡ tokens ts) {out : Out
 
 module _ (t o : Bytes) {ts : List Token} (d : decode t ≡ tokens ts) where
   pub schema_written : {o' : Bytes} {r : ℕ} → (parse_schema ts).errors ≡ [] → let bs = encode_schema (schema_of (parse_schema ts).value) in
-      leb (length bs) (length o) ≡ true → (o' ≡ bs ++ drop (length bs) o) × (r ≡ length bs) → Answers t o o' (Schema r)
+      leb (length bs) (length o) ≡ true → (o' ≡ bs ++ drop (length bs) o) × (r ≡ length bs) → Answers t o o' (Ok (Schema r))
   schema_written z e (b, n) = let a = fits t o d (parse_schema_lem ts z) e in record { answer = rw (a, n); buffer = rw a b }
 
   pub errors_written : {o' : Bytes} {r : ℕ} {es : List Error} → parse ts ≡ Outcome.errors es →
       leb (length (errors_bytes es)) (length o) ≡ true → (o' ≡ errors_bytes es ++ drop (length (errors_bytes es)) o) × (r ≡ length (errors_bytes es))
-      → Answers t o o' (Errors r)
+      → Answers t o o' (Ok (Errors r))
   errors_written p e (b, n) = let a = fits t o d p e in record { answer = rw (a, n); buffer = rw a b }
 
 -- no bytes are no tokens, and these an empty schema, whose table is empty
-pub nothing_read : {t : Bytes} (o : Bytes) → length t ≡ 0 → Answers t o o (Schema 0)
+pub nothing_read : {t : Bytes} (o : Bytes) → length t ≡ 0 → Answers t o o (Ok (Schema 0))
 unfolding encode_schema decode decode_from pick
 nothing_read {t} o z = go t z
   where
-    go : (t : Bytes) → length t ≡ 0 → Answers t o o (Schema 0)
+    go : (t : Bytes) → length t ≡ 0 → Answers t o o (Ok (Schema 0))
     go [] n = schema_written [] o {ts = []} refl refl (le-leb 0 (length o) (omega arith)) (refl, refl)
     go (b ∷ bs) n = absurd (omega (arith, n))
 
@@ -118,10 +121,10 @@ module _ {t : Bytes} {end : ℕ} {imports : List ℕ} {order : Ordered} {items s
   }
 
 -- what the check told
-pub passed : {t : Bytes} {r : token.Checked} {n e : ℕ} → r ≡ checked t → r ≡ Fine n e → Checked t e × (length (tokens_from t 0) ≡ n)
-passed {t} {r} {n} {e} p q =
-    let j = fine t n e (sym p ∙ q) in
+pub passed : {t : Bytes} {c : token.Checked} → numbered (Ok c) ≡ checked t → Checked t c.end × (length (tokens_from t 0) ≡ c.count)
+passed {t} {c} p =
+    let j = fine t c.count c.end (sym p) in
     (record { decodes = j.decodes; last = j.end; wf = j.wf }, sym j.count)
 
-pub stopped : {t : Bytes} (o : Bytes) {r : token.Checked} {n at : ℕ} → r ≡ checked t → r ≡ token.TheVariants.Refused n at → Answers t o o (Refused n at)
-stopped {t} o {r} {n} {at} p q = turned_away t o (refusal t n at (sym p ∙ q))
+pub stopped : {t : Bytes} (o : Bytes) {r : Refused} → numbered (Err r) ≡ checked t → Answers t o o (Err r)
+stopped {t} o {r} p = turned_away t o {r = r} (refusal t (number_of r.refusal) r.offset (sym p))

@@ -1,6 +1,8 @@
 -- What a call of the reader promises: the enum's cases in document 01's numbers and values, and the lent buffer afterwards.
-use Rattle.std.specs.Prelude.{ℕ, ◌≤◌, ◌≡◌, List, [], length}
+use Rattle.std.specs.Prelude.{ℕ, ◌≤◌, ◌≡◌, List, [], length, Result, Ok, Err}
 use Rattle.wire.specs.Bytes.{Bytes}
+use Rattle.wire.specs.Refusal.{number_of}
+use Rattle.wire.specs.declared.Refused.{Refused}
 use Rattle.token.specs.Token.{end_of}
 use Rattle.token.specs.Table.{tokens, decode}
 use Rattle.token.specs.Places.{tokens_from, Wf}
@@ -10,16 +12,27 @@ use Rattle.grammar.specs.Answer as reading
 use Rattle.places.specs.Imports.{Orders}
 use Rattle.places.specs.declared.Ordered.{Ordered}
 use Rattle.reader.specs.declared.Answer.{Answer}
-use Rattle.reader.specs.declared.Answer.TheVariants.{Refused, Schema, Errors}
+use Rattle.reader.specs.declared.Answer.TheVariants.{Schema, Errors}
 
 -- a refusal tells its number and offset, a success the length written
-abbrev pub told : reading.Answer → Answer
-told (reading.Answer.refusal number offset) = Refused number offset
-told (reading.Answer.schema bs) = Schema (length bs)
-told (reading.Answer.errors bs) = Errors (length bs)
+pub data Told : Type 0 where
+  refused : ℕ → ℕ → Told
+  schema : ℕ → Told
+  errors : ℕ → Told
 
-pub record Answers (table before after : Bytes) (r : Answer) : Type 0 where
-  pub answer : r ≡ told (read_answer table (length before))
+abbrev pub told : reading.Answer → Told
+told (reading.Answer.refusal number offset) = refused number offset
+told (reading.Answer.schema bs) = schema (length bs)
+told (reading.Answer.errors bs) = errors (length bs)
+
+-- the code's answer in document 01's numbers and values
+abbrev pub numbered : Result Answer Refused → Told
+numbered (Ok (Schema n)) = schema n
+numbered (Ok (Errors n)) = errors n
+numbered (Err r) = refused (number_of r.refusal) r.offset
+
+pub record Answers (table before after : Bytes) (r : Result Answer Refused) : Type 0 where
+  pub answer : numbered r ≡ told (read_answer table (length before))
   pub buffer : after ≡ buffer_after before (read_answer table (length before))
 
 -- a table that token::check passed, and its last token's end

@@ -1,20 +1,22 @@
 -- Records in parts: a head, then the payload; what the kinds of tokens show of their payloads; brackets, one pair after the other.
 use Prim.Native.Nat.{ℕ, zero, suc, ◌+◌, ◌*◌, ◌-◌, ◌≤◌, ◌<◌}
 use mathlib.Core.Path.{◌≡◌, refl, sym, ap, ◌∙◌}
-use mathlib.Core.Bool.{Bool, true, false, ◌&&◌, and-eq-true_iff}
-use mathlib.Core.Option.{Option, none, some}
+use mathlib.Core.Bool.{true, false, ◌&&◌, and-eq-true_iff}
+use mathlib.Core.Option as maybe
+use mathlib.Core.Option.{none, some}
 use mathlib.Core.List.{List, [], ◌∷◌, ◌++◌, append_assoc, append-nil}
 use native.Mathlib.Omega.{arith}
 use native.Mathlib.Numerals.{sub-one}
-use lib.Dec.{leb}
+use lib.Dec.{eqb, leb}
 use lib.ListN.{length, drop, length-append}
-use borrow.Author.Tests.{leb-true, le-leb, eq-eqb, ne_eqb}
+use borrow.Author.Tests.{leb-true, le-leb, eq-eqb}
 use Rattle.wire.specs.Bytes.{Bytes}
 use Rattle.wire.specs.Le.{le_bytes}
 use Rattle.wire.specs.Pick.{pick}
-use Rattle.wire.specs.Put.{Wrote}
+use Rattle.wire.specs.Puts.{Puts}
 use Rattle.wire.specs.Record.{head_bytes, record_bytes}
-use Rattle.wire.proofs.Laws.{parts, Rest, rest_step, wrote_length}
+use Rattle.wire.specs.declared.Writer.{Writer}
+use Rattle.wire.proofs.Puts.{then, parts, Rest, rest_step}
 use Rattle.wire.proofs.Numbers.{AllBytes, le_bytes-length}
 use Rattle.token.specs.Token.{Token}
 use Rattle.token.specs.Kind.{k_comment, k_identifier}
@@ -25,24 +27,23 @@ use Rattle.token.proofs.Paragraphs.{all_take, all_drop, paragraphs_again, paragr
 use Rattle.token.proofs.Walk.{wf_good}
 use Rattle.schema.specs.Kind.{s_comment, s_array, s_plain, s_custom}
 use Rattle.schema.specs.Encode.{sized, counted, encode_comment, encode_type}
-use Rattle.grammar.specs.Tree.{TypeTree, Is, IfAny, WfType}
+use Rattle.grammar.specs.Tree.{TypeTree, WfType}
+use Rattle.grammar.specs.Place.{span}
 use Rattle.grammar.specs.Meaning.{comment_of, type_of}
-use Rattle.parser.specs.Trees.{when, base_at, array_at, type_at}
+use Rattle.parser.specs.Trees.{base_at, array_at, type_at}
 use Rattle.parser.specs.Steps.{Stands, Brackets}
 use Rattle.parser.specs.declared.TypePlaces.{TypePlaces}
-use Rattle.records.specs.Here.{CommentHere, Whole, Paragraphs}
+use Rattle.records.specs.Pieces.{source_range}
+use Rattle.records.specs.declared.SourceRange.{SourceRange}
+use Rattle.records.specs.Here.{Whole, Paragraphs}
 
 -- a record is its head, then its payload
-pub put_record : (kind start end : ℕ) {o : Bytes} {at size : ℕ} {payload o₁ : Bytes} {r₁ : ℕ} {o₂ : Bytes} {r₂ : ℕ}
-    → Wrote o at (head_bytes size kind start end) o₁ r₁ → Wrote o₁ r₁ payload o₂ r₂ → size ≡ 12 + length payload
-    → Wrote o at (record_bytes kind start end payload) o₂ r₂
+pub put_record : (kind start end : ℕ) {w : Writer} {n : ℕ} {w₁ : Writer} {payload : Bytes} {w₂ : Writer} → Puts w (head_bytes (12 + n) kind start end) w₁
+    → Puts w₁ payload w₂
+    → n ≡ length payload
+    → Puts w (record_bytes kind start end payload) w₂
 unfolding record_bytes
 put_record kind start end p q e = parts p q (rw e)
-
--- what is left to write is written
-pub rest_last : {o : Bytes} {at : ℕ} {bs o₁ : Bytes} {r : ℕ} {o₀ : Bytes} {at₀ : ℕ} {all : Bytes} → Wrote o at bs o₁ r → Rest o at bs o₀ at₀ all
-    → Wrote o₀ at₀ all o₁ r
-rest_last w q = record { bytes = w.bytes ∙ q.bytes; place = w.place ∙ q.place }
 
 -- the bytes of a slice
 pub all_payload : (t : Bytes) (at : ℕ) → AllBytes t → AllBytes (tok_at t at).payload
@@ -61,11 +62,6 @@ module _ {t : Bytes} {at : ℕ} (s : Stands t at) where
   comment_are : (tok_at t at).kind ≡ k_comment → are_paragraphs 32 (tok_at t at).payload ≡ true
   unfolding is_payload is_comment pick
   comment_are e = ((and-eq-true_iff (leb 1 (length (tok_at t at).payload)) _).0 (rw e at (wf_good s.0 s.1).sound.payload)).1
-
-  -- a comment that may be absent
-  pub comment_here : (there : Bool) → IfAny (Is k_comment) (when there (tok_at t at)) → CommentHere t at there
-  comment_here true w = (s, w)
-  comment_here false w = tt
 
   pub comment_there : (tok_at t at).kind ≡ k_comment → AllBytes t → Paragraphs (some (tok_at t at)) (tok_at t at).payload
   unfolding paragraphs_of
@@ -93,8 +89,10 @@ counted_none (b ∷ p) z = absurd (omega arith)
 pub described_length : (name : Bytes) {p : Bytes} → Whole p → length (sized name ++ counted (paragraphs_of p)) ≡ 4 + length name + length p
 described_length name w = simp (length-append, le_bytes-length) (rw w.again (omega arith))
 
-pub field_payload_lem : (rule n : ℕ) (name rest : Bytes) → (rule ∷ []) ++ (le_bytes 8 n ++ (name ++ rest)) ≡ rule ∷ le_bytes 8 n ++ name ++ rest
-field_payload_lem rule n name rest = ap (rule ∷◌) (sym (append_assoc (le_bytes 8 n) name rest))
+pub put_field_payload : (rule n : ℕ) (name p : Bytes) {w w₁ w₂ w₃ : Writer} → Puts w (rule ∷ []) w₁ → Puts w₁ (le_bytes 8 n) w₂
+    → Puts w₂ (sized name ++ counted (paragraphs_of p)) w₃
+    → Puts w (rule ∷ le_bytes 8 n ++ sized name ++ counted (paragraphs_of p)) w₃
+put_field_payload rule n name p a b c = parts a (then b c) (ap (rule ∷◌) (sym (append_assoc (le_bytes 8 n) (sized name) (counted (paragraphs_of p)))))
 
 pub field_length : (rule n : ℕ) (name : Bytes) {p : Bytes} → Whole p
     → length (rule ∷ le_bytes 8 n ++ sized name ++ counted (paragraphs_of p)) ≡ 13 + length name + length p
@@ -108,7 +106,7 @@ field_length rule n name {p} w =
     (omega arith)
 
 -- the schema's comment, by its bytes
-module _ {comment : Option Token} {p : Bytes} (w : Paragraphs comment p) where
+module _ {comment : maybe.Option Token} {p : Bytes} (w : Paragraphs comment p) where
   pub comment_bytes : paragraph_bytes (comment_of comment) ≡ p
   comment_bytes = rw w.these at w.whole.again
 
@@ -141,10 +139,10 @@ module _ (t : Bytes) (at : ℕ) where
   unfolding pick
   single_is e = rw (eq-eqb _ _ e)
 
-  pub plain_is : ((tok_at t at).kind ≡ k_identifier → ⊥)
+  pub plain_is : eqb (tok_at t at).kind k_identifier ≡ false
       → encode_type (type_of (base_at t at false)) ≡ record_bytes s_plain (tok_at t at).start (tok_at t at).end (le_bytes 2 (tok_at t at).kind)
   unfolding pick
-  plain_is e = rw (ne_eqb _ _ e)
+  plain_is e = rw e
 
 module _ (t : Bytes) (close : ℕ) (base : TypeTree) where
   pub wf_base : (left opens : ℕ) → WfType (array_at t close base left opens) → WfType base
@@ -164,29 +162,17 @@ module _ (t : Bytes) (close : ℕ) (base : TypeTree) where
   array_is (suc d) opens h = rw (sub-one, append-nil)
 
 -- so many brackets are still to be written, from `opens` on, and then the base
-pub record Nesting (t : Bytes) (p : TypePlaces) (o₀ : Bytes) (a₀ : ℕ) (o : Bytes) (a left opens : ℕ) : Type 0 where
-  pub rest : Rest o a (encode_type (type_of (array_at t p.close (base_at t p.base p.dotted) left opens))) o₀ a₀ (encode_type (type_of (type_at t p)))
+pub record Nesting (t : Bytes) (p : TypePlaces) (w₀ w : Writer) (left opens : ℕ) : Type 0 where
+  pub rest : Rest w (encode_type (type_of (array_at t p.close (base_at t p.base p.dotted) left opens))) w₀ (encode_type (type_of (type_at t p)))
   pub brackets : Brackets t p.close left opens
-  pub size : length o ≡ length o₀
 
-module _ {t : Bytes} {p : TypePlaces} {o₀ : Bytes} {a₀ : ℕ} {o : Bytes} {a left opens : ℕ} (n : Nesting t p o₀ a₀ o a left opens) where
-  module _ (h : 0 < left) where
-    pub bracket_opens : Stands t opens
-    bracket_opens = (outermost t p.close (base_at t p.base p.dotted) left opens h n.brackets).0
-
-    pub bracket_closes : Stands t (p.close + 12 * (left - 1))
-    bracket_closes = (outermost t p.close (base_at t p.base p.dotted) left opens h n.brackets).1
-
-    pub nested : {start end r : ℕ} {o' : Bytes} → start ≡ (tok_at t opens).start → end ≡ (tok_at t (p.close + 12 * (left - 1))).end
-        → Wrote o a (head_bytes 12 s_array start end) o' r → Nesting t p o₀ a₀ o' r (left - 1) (next_at t opens)
-    nested e f w =
-        let base = base_at t p.base p.dotted in
-        record {
-          rest = rest_step w n.rest (rw (e, f) (array_is t p.close base left opens h));
-          brackets = (outermost t p.close base left opens h n.brackets).2;
-          size = wrote_length w ∙ n.size;
-        }
-
-  pub innermost : left ≤ 0 → {o' : Bytes} {r : ℕ} → Wrote o a (encode_type (type_of (base_at t p.base p.dotted))) o' r
-      → Wrote o₀ a₀ (encode_type (type_of (type_at t p))) o' r
-  innermost h w = let z : left ≡ 0 = omega arith in rest_last w (rw z at n.rest)
+pub nested : {t : Bytes} {p : TypePlaces} {w₀ w : Writer} {left opens : ℕ} {range : SourceRange} {w' : Writer} → Nesting t p w₀ w left opens → 0 < left
+    → range ≡ source_range (span (tok_at t opens) (tok_at t (p.close + 12 * (left - 1))))
+    → Puts w (head_bytes 12 s_array range.start range.end) w'
+    → Nesting t p w₀ w' (left - 1) (next_at t opens)
+nested {t} {p} {left = left} {opens = opens} n h e q =
+    let base = base_at t p.base p.dotted in
+    record {
+      rest = rest_step q n.rest (rw e (array_is t p.close base left opens h));
+      brackets = (outermost t p.close base left opens h n.brackets).2;
+    }

@@ -1,13 +1,25 @@
 -- The records that one construct gives.
-use Rattle.std.specs.Prelude.{◌++◌}
+use Rattle.std.specs.Prelude.{ℕ, ◌++◌}
 use Rattle.wire.specs.Bytes.{Bytes}
 use Rattle.token.specs.Token.{Token}
-use Rattle.schema.specs.Ast.{Field}
+use Rattle.schema.specs.Ast.{Range, Field}
 use Rattle.schema.specs.Kind.{s_field}
 use Rattle.schema.specs.Encode.{encode_record, sized, counted, encode_type, field_payload, declaration_kind}
 use Rattle.grammar.specs.Tree.{HeadTree}
 use Rattle.grammar.specs.Place.{span, first_of}
 use Rattle.grammar.specs.Meaning.{comment_of, variant_of}
+use Rattle.records.specs.declared.SourceRange.{SourceRange}
+use Rattle.records.specs.declared.Rule.{Rule}
+use Rattle.records.specs.declared.Rule.TheVariants.{Required, Asymmetric, Optional}
+
+-- a range of the schema, as the writers hold it
+abbrev pub source_range : Range → SourceRange
+source_range r = record { start = r.start; end = r.end }
+
+abbrev pub number_of : Rule → ℕ
+number_of Required = 0
+number_of Asymmetric = 1
+number_of Optional = 2
 
 -- a field, then its type
 abbrev pub encode_field : Field → Bytes

@@ -1,106 +1,94 @@
--- The check, record by record: r is its verdict on the table t, of which it has passed the records before `at`.
-use Prim.Native.Nat.{ℕ, ◌-◌, ◌≤◌, ◌<◌}
+-- The check, record by record.
+use Prim.Native.Nat.{ℕ, ◌≤◌, ◌<◌}
 use mathlib.Core.Path.{◌≡◌, refl, sym, ◌∙◌}
 use mathlib.Core.Bool.{Bool, true, false, ◌&&◌, and-false, and-eq-true_iff}
+use mathlib.Core.List.{List, [], ◌∷◌}
+use mathlib.Core.Logic.{◌⊎◌}
 use native.Mathlib.Omega.{arith}
-use borrow.Author.Tests.{leb-true, eqb-true}
-use lib.Dec.{eqb}
-use lib.ListN.{length, take, drop, length-drop, drop_of_length-le}
+use borrow.Author.Tests.{ne_eqb}
+use lib.ListN.{length, length-drop}
 use Rattle.wire.specs.Bytes.{Bytes}
 use Rattle.wire.specs.Pick.{pick}
 use Rattle.token.specs.Token.{Token}
-use Rattle.token.specs.Table.{is_whole}
-use Rattle.token.proofs.Laws.{part_from}
+use Rattle.token.specs.Table.{size_of, is_whole}
+use Rattle.token.specs.Split.{held, SplitsRecord}
+use Rattle.token.specs.declared.Record.{Record}
 use Rattle.token.proofs.Records.{fits}
 use Rattle.schema.specs.Kind.{s_import}
-use Rattle.schema.specs.Payload.{is_sized, is_named, is_import, is_payload}
-use Rattle.schema.specs.Table.{is_framed, may_follow, row_after, is_right, is_later, is_next, are_next, outset, is_schema_table}
-use Rattle.schema.specs.Walk.{records_from, kind_at, next_at, payload_at, token_at, WholeAt}
-use Rattle.schema.proofs.Records.{framed_not}
-use Rattle.schema.proofs.Walk.{whole_at, records_at, framed_at, records_end}
+use Rattle.schema.specs.Payload.{is_sized, is_named, is_import, is_type_payload, is_payload}
+use Rattle.schema.specs.Table.{records_of, is_framed, may_follow, row_after, is_next, are_next, seen, Adds, is_schema_table}
+use Rattle.schema.proofs.Records.{Whole, framed_not, framed_step, records_step}
 
--- The last record, of this kind, stands at `last`; before the first one, `last` is `at`.
-pub record Judging (t : Bytes) (at last kind row : ℕ) (r : Bool) : Type 0 where
-  pub inside : at ≤ length t
-  pub shallow : row ≤ 64
-  pub whole : WholeAt t at → WholeAt t last
-  pub sized : kind ≡ s_import → is_sized (payload_at t last) ≡ true
-  pub before : Token
-  pub is : before.kind ≡ kind
-  pub holds : kind ≡ s_import → before.payload ≡ payload_at t last
-  pub left : (is_framed (drop at t) && are_next before row (records_from t at)) ≡ r
+-- the next record is judged by the last one's kind and payload alone
+next_seen : (last : Token) (row : ℕ) (rs : List Token) → are_next last row rs ≡ are_next (seen last.kind last.payload) row rs
+unfolding is_next
+next_seen last row [] = refl
+next_seen last row (r ∷ rs) = refl
 
-pub judging : (t : Bytes) → Judging t 0 0 0 0 (is_schema_table t)
-unfolding is_schema_table
-judging t =
-    record {
-      inside = omega arith;
-      shallow = omega arith;
-      whole = λ w. w;
-      sized = λ e. absurd (omega arith);
-      before = outset;
-      is = refl;
-      holds = λ e. absurd (omega arith);
-      left = refl;
-    }
-
--- only imports are compared
-later_same : (last k : ℕ) (p p' q : Bytes) → (last ≡ s_import → p ≡ p') → is_later last p k q ≡ is_later last p' k q
-unfolding is_later
-later_same last k p p' q h = go (eqb k s_import && eqb last s_import) refl
-  where
-    go : (b : Bool) → (eqb k s_import && eqb last s_import) ≡ b → is_later last p k q ≡ is_later last p' k q
-    go true e = rw (h (eqb-true last s_import ((and-eq-true_iff (eqb k s_import) _).0 e).1))
-    go false e = unfold pick in rw e
+pub payload_unknown : (k : ℕ) (p : Bytes) → (k < 101) ⊎ (109 < k) → is_payload k p ≡ false
+unfolding is_payload is_type_payload pick
+payload_unknown k p h =
+    rw (
+      ne_eqb k 101 (λ e. omega arith),
+      ne_eqb k 102 (λ e. omega arith),
+      ne_eqb k 103 (λ e. omega arith),
+      ne_eqb k 104 (λ e. omega arith),
+      ne_eqb k 105 (λ e. omega arith),
+      ne_eqb k 106 (λ e. omega arith),
+      ne_eqb k 107 (λ e. omega arith),
+      ne_eqb k 108 (λ e. omega arith),
+      ne_eqb k 109 (λ e. omega arith),
+    )
 
 -- an import that is right has a name after its length
-pub import_sized : (last row k : ℕ) (p : Bytes) → is_right last row k p ≡ true → k ≡ s_import → is_sized p ≡ true
-unfolding is_right is_payload pick is_import is_named
-import_sized last row k p e i =
-    let a : is_payload k p ≡ true = ((and-eq-true_iff (is_payload k p) _).0 ((and-eq-true_iff (may_follow last k) _).0 e).1).0 in
-    let b : is_import p ≡ true = rw i at a in
+pub import_sized : (k : ℕ) (p : Bytes) → is_payload k p ≡ true → k ≡ s_import → is_sized p ≡ true
+unfolding is_payload pick is_import is_named
+import_sized k p e i =
+    let b : is_import p ≡ true = rw i at e in
     ((and-eq-true_iff (is_sized p) _).0 ((and-eq-true_iff (is_named p) _).0 b).0).0
 
-module _ {t : Bytes} {at last kind row : ℕ} {r : Bool} (j : Judging t at last kind row r) where
-  pub judged_end : length t ≤ at → may_follow kind 0 ≡ r
-  unfolding is_framed
-  judged_end h = rw j.is at (rw (records_end t at h, drop_of_length-le t h) at j.left)
+pub ruleset of_payloads = (import_sized, payload_unknown)
 
-  module _ (h : at < length t) where
-    pub judged_cut : is_whole (take (length t - at) (drop at t)) ≡ false → false ≡ r
-    judged_cut e = rw (framed_not (drop at t) (rw length-drop (omega (arith, h))) (rw part_from at e)) at j.left
+-- these bytes are left of a table, after a record of this kind and payload and `row` arrays, and r is the verdict on the table
+pub record Judging (rest : Bytes) (kind : ℕ) (payload : Bytes) (row : ℕ) (r : Bool) : Type 0 where
+  pub shallow : row ≤ 64
+  pub sized : kind ≡ s_import → is_sized payload ≡ true
+  pub left : (is_framed rest && are_next (seen kind payload) row (records_of rest)) ≡ r
 
-    pub judged_whole : is_whole (take (length t - at) (drop at t)) ≡ true → WholeAt t at
-    judged_whole e = whole_at t at h (fits (drop at t) (rw part_from at e))
+pub judging : (t : Bytes) → Judging t 0 [] 0 (is_schema_table t)
+unfolding is_schema_table
+judging t = record { shallow = omega arith; sized = λ e. absurd (omega arith); left = refl }
 
-  module _ (w : WholeAt t at) where
-    judged_step : (is_framed (drop (next_at t at) t)
-        && ((is_right kind row (kind_at t at) (payload_at t at) && is_later kind (payload_at t last) (kind_at t at) (payload_at t at))
-        && are_next (token_at t at) (row_after row (kind_at t at)) (records_from t (next_at t at)))) ≡ r
-    unfolding is_next
-    judged_step =
-        rw (← later_same kind (kind_at t at) j.before.payload (payload_at t last) (payload_at t at) j.holds, ← j.is)
-        (rw (framed_at t at w, records_at t at w) at j.left)
+module _ {rest : Bytes} {kind : ℕ} {payload : Bytes} {row : ℕ} {r : Bool} (j : Judging rest kind payload row r) where
+  pub judged_end : length rest ≡ 0 → may_follow kind 0 ≡ r
+  unfolding is_framed records_of
+  judged_end h = go rest j h
+    where
+      go : (rest : Bytes) → Judging rest kind payload row r → length rest ≡ 0 → may_follow kind 0 ≡ r
+      go [] j h = j.left
+      go (b ∷ bs) j h = absurd (omega arith)
 
-    pub judged_wrong : is_right kind row (kind_at t at) (payload_at t at) ≡ false → false ≡ r
-    judged_wrong e = sym (and-false (is_framed (drop (next_at t at) t))) ∙ rw e at judged_step
+  pub judged_cut : 0 < length rest → is_whole rest ≡ false → false ≡ r
+  judged_cut h e = rw (framed_not rest h e) at j.left
 
-    module _ (e : is_right kind row (kind_at t at) (payload_at t at) ≡ true) where
-      pub judged_early : is_later kind (payload_at t last) (kind_at t at) (payload_at t at) ≡ false → false ≡ r
-      judged_early f = sym (and-false (is_framed (drop (next_at t at) t))) ∙ rw (e, f) at judged_step
+  module _ {v : Record} {after : Bytes} (s : SplitsRecord rest v after) where
+    whole : Whole rest
+    whole = fits rest s.whole
 
-      pub judged_next : is_later kind (payload_at t last) (kind_at t at) (payload_at t at) ≡ true
-          → Judging t (next_at t at) at (kind_at t at) (row_after row (kind_at t at)) r
-      unfolding is_right
-      judged_next f =
-          record {
-            inside = w.tail;
-            shallow = leb-true _ 64 ((and-eq-true_iff (is_payload (kind_at t at) (payload_at t at)) _).0
-                ((and-eq-true_iff (may_follow kind (kind_at t at)) _).0 e).1).1;
-            whole = λ _. w;
-            sized = import_sized kind row (kind_at t at) (payload_at t at) e;
-            before = token_at t at;
-            is = refl;
-            holds = λ _. refl;
-            left = rw (e, f) at judged_step;
-          }
+    judged_step : (is_framed after && (is_next (seen kind payload) row (held v) && are_next (held v) (row_after row v.kind) (records_of after))) ≡ r
+    judged_step = rw (← s.first, ← s.later) at (rw (framed_step rest whole, records_step rest whole) at j.left)
+
+    pub judged_wrong : is_next (seen kind payload) row (held v) ≡ false → false ≡ r
+    judged_wrong e = sym (and-false (is_framed after)) ∙ rw e at judged_step
+
+    pub judged_less : length after < length rest
+    judged_less = let w = whole in let l = length-drop (size_of rest) rest in rw s.later (omega (arith, w.head, w.tail))
+
+    pub judged_next : {kind' : ℕ} {payload' : Bytes} {row' : ℕ} → Adds (seen kind payload) row (held v) kind' payload' row' → row' ≤ 64
+        → (kind' ≡ s_import → is_sized payload' ≡ true) → Judging after kind' payload' row' r
+    judged_next a l z =
+        record {
+          shallow = l;
+          sized = z;
+          left = rw (a.is, a.holds, a.arrays) (rw (a.right, next_seen (held v) (row_after row v.kind) (records_of after)) at judged_step);
+        }

@@ -19,3 +19,4 @@ pub mod WriteBack
 -- loops
 pub mod Scans
 pub mod Judging
+pub mod Known

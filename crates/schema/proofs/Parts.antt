@@ -1,8 +1,8 @@
 -- The parts of a payload are read where they were written, and written where they were read.
-use mathlib.Core.Path.{◌≡◌, refl, sym, ap, ◌∙◌}
+use mathlib.Core.Path.{◌≡◌, refl, ap, ◌∙◌}
 use mathlib.Core.Bool.{true, and-eq-true_iff}
 use mathlib.Core.List.{List, [], ◌∷◌, ◌++◌}
-use Prim.Native.Nat.{ℕ, zero, suc, ◌+◌, ◌*◌, ◌-◌, ◌/◌, ◌^◌, ◌≤◌, ◌<◌}
+use Prim.Native.Nat.{ℕ, zero, suc, ◌+◌, ◌*◌, ◌/◌, ◌^◌, ◌≤◌, ◌<◌}
 use native.Mathlib.Omega.{arith}
 use borrow.Author.Tests.{leb-true, le-leb}
 use lib.Dec.{leb}
@@ -12,12 +12,11 @@ use Rattle.wire.specs.Bytes.{Bytes}
 use Rattle.wire.specs.Le.{le_bytes, le_at, u16_at}
 use Rattle.wire.proofs.Numbers.{AllBytes, le_bytes-length, le_at-le_bytes}
 use Rattle.token.specs.Payload.{paragraph_of, after_paragraph}
-use Rattle.token.proofs.Laws.{part_from}
 use Rattle.token.proofs.Paragraphs.{all_take, all_drop, page_size, page_length}
 use Rattle.token.proofs.Encode.{le_small, bytes_at}
 use Rattle.schema.specs.Limits.{Each}
 use Rattle.schema.specs.Encode.{sized, indices}
-use Rattle.schema.specs.Payload.{name_of, after_name, is_sized, is_named, indices_in, indices_of}
+use Rattle.schema.specs.Payload.{name_of, after_name, is_sized, indices_in, indices_of}
 
 -- a number fits the bytes that it was read from
 pub le_at_small : (k : ℕ) (bs : Bytes) (at : ℕ) → AllBytes bs → at + k ≤ length bs → le_at k bs at < 256 ^ k
@@ -53,19 +52,6 @@ unfolding paragraph_of after_paragraph
 name_back p s a =
     let h = s.room in
     rw (s.size, bytes_at 2 0 p a (omega arith), ← (take-add 2 (u16_at p 0) p), drop-drop) (take-append-drop (2 + u16_at p 0) p)
-
-pub named_sized : (p : Bytes) → is_named p ≡ true → is_sized p ≡ true
-unfolding is_named
-named_sized p e = ((and-eq-true_iff (is_sized p) _).0 e).0
-
--- as parts of a slice
-pub name_part : (p : Bytes) → take (2 + u16_at p 0 - 2) (drop 2 p) ≡ name_of p
-unfolding paragraph_of
-name_part p = let z : 2 + u16_at p 0 - 2 ≡ u16_at p 0 = omega arith in rw z
-
-pub after_part : (p : Bytes) → take (length p - (2 + u16_at p 0)) (drop (2 + u16_at p 0) p) ≡ after_name p
-unfolding after_paragraph
-after_part p = part_from p (2 + u16_at p 0) ∙ sym (drop-drop (u16_at p 0) 2 p)
 
 -- u64s
 pub indices-length : (ns : List ℕ) → length (indices ns) ≡ 8 * length ns

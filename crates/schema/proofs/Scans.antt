@@ -1,63 +1,72 @@
 -- Parts of a payload that code walks or tests: indices compared, a count and its paragraphs.
-use mathlib.Core.Path.{◌≡◌, sym, ◌∙◌}
-use mathlib.Core.Bool.{Bool, true, false, not, ◌&&◌}
-use mathlib.Core.List.{[]}
-use Prim.Native.Nat.{ℕ, suc, ◌+◌, ◌-◌, ◌/◌, ◌%◌, ◌≤◌, ◌<◌}
+use mathlib.Core.Path.{◌≡◌, refl, sym}
+use mathlib.Core.Bool.{Bool, true, false}
+use mathlib.Core.List.{List, [], ◌∷◌, map}
+use Prim.Native.Nat.{ℕ, zero, suc, ◌+◌, ◌-◌, ◌/◌, ◌%◌, ◌≤◌, ◌<◌}
+use native.Mathlib.Numerals.{add-one}
 use native.Mathlib.Omega.{arith}
-use borrow.Author.Tests.{lt-ltb, le-ltb, le-leb, eq-eqb, not-true, not-false}
+use borrow.Author.Tests.{le-leb, eq-eqb}
 use lib.Dec.{ltb, eqb}
-use lib.ListN.{length, take, drop, length-take, length-drop, drop_of_length-le}
-use lib.Seq.{drop-drop}
+use lib.ListN.{length, get_or, take, drop, length-take, length-drop, drop_of_length-le}
+use lib.Seq.{take_all}
+use Rattle.std.specs.List.{AllAdjacentBelow, IsAllAdjacentAnswer}
+use Rattle.std.specs.Simd.{first_chunks}
 use Rattle.wire.specs.Bytes.{Bytes}
 use Rattle.wire.specs.Le.{le_at, u16_at, u64_at}
+use Rattle.wire.proofs.Choice.{and_second}
 use Rattle.token.proofs.Laws.{part_from}
 use Rattle.token.specs.Payload.{is_comment, are_paragraphs, paragraphs_of}
-use Rattle.schema.specs.Order.{is_chain_after}
+use Rattle.schema.specs.Order.{is_chain, is_chain_after}
 use Rattle.schema.specs.Payload.{indices_in, indices_of, is_deleted, is_counted}
 
--- the indices of p up to `at` ascend, `last` being the last of them; r is whether all do
-pub record Ascending (p : Bytes) (last at : ℕ) (r : Bool) : Type 0 where
-  pub inside : at ≤ length p
-  pub whole : (length p - at) % 8 ≡ 0
-  pub left : is_chain_after ltb last (indices_in ((length p - at) / 8) (drop at p)) ≡ r
+-- the number in a chunk of 8 bytes
+abbrev pub index_of : Bytes → ℕ
+index_of chunk = u64_at chunk 0
 
-pub ascending : {p : Bytes} {last : ℕ} → 1 ≤ length p → length p % 8 ≡ 0 → last ≡ u64_at p 0 → Ascending p last 8 (is_deleted p)
+chunk_indices : (n : ℕ) (p : Bytes) → map index_of (first_chunks 8 n p) ≡ indices_in n p
+unfolding le_at
+chunk_indices zero p = refl
+chunk_indices (suc n) p =
+    let l = length-take 8 p in
+    let t : take 8 (take 8 p) ≡ take 8 p = take_all 8 (take 8 p) (omega arith) in
+    rw (t, chunk_indices n (drop 8 p))
+
+abbrev pub Rising : Bytes → Bytes → Bool → Type 0
+Rising x y b = b ≡ ltb (index_of x) (index_of y)
+
+next : (x : Bytes) (xs : List Bytes) (k : ℕ) (d : Bytes) → get_or (x ∷ xs) (k + 1) d ≡ get_or xs k d
+next x xs k d = rw add-one
+
+-- each index is below the next, or one of them is not
+all_rising : (x : Bytes) (xs : List Bytes) → AllAdjacentBelow (λ a b. Rising a b true) (x ∷ xs) (length (x ∷ xs))
+    → true ≡ is_chain_after ltb (index_of x) (map index_of xs)
+all_rising x [] h = refl
+all_rising x (y ∷ ys) h =
+    let e : true ≡ ltb (index_of x) (index_of y) = h 0 [] (omega arith) in
+    rw (← e) (all_rising y ys (λ k d l. rw (← next x (y ∷ ys) (k + 1) d, ← next x (y ∷ ys) k d) (h (k + 1) d (omega arith))))
+
+one_falling : (x : Bytes) (xs : List Bytes) (k : ℕ) → k + 1 < length (x ∷ xs)
+    → ((d : Bytes) → Rising (get_or (x ∷ xs) k d) (get_or (x ∷ xs) (k + 1) d) false) → false ≡ is_chain_after ltb (index_of x) (map index_of xs)
+one_falling x [] k l h = absurd (omega arith)
+one_falling x (y ∷ ys) zero l h = let e : false ≡ ltb (index_of x) (index_of y) = h [] in rw (← e)
+one_falling x (y ∷ ys) (suc k) l h =
+    let f = one_falling y ys k (omega arith) (λ d. rw add-one (rw (next x (y ∷ ys) (suc k) d) at (h d))) in
+    sym (and_second (ltb (index_of x) (index_of y)) _ (sym f))
+
+pub deleted_is : (p : Bytes) {chunks : List Bytes} {r : Bool} → chunks ≡ first_chunks 8 (length p / 8) p → 1 ≤ length p → length p % 8 ≡ 0
+    → IsAllAdjacentAnswer Rising chunks r → r ≡ is_deleted p
 unfolding is_deleted indices_of
-ascending {p} h w e =
-    let z : length p / 8 ≡ suc ((length p - 8) / 8) = omega arith in
-    record {
-      inside = omega arith;
-      whole = omega arith;
-      left = rw (le-leb 1 (length p) h, eq-eqb (length p % 8) 0 w, z, e);
-    }
-
-module _ {p : Bytes} {last at : ℕ} {r : Bool} (a : Ascending p last at r) where
-  ascending_step : at < length p → (ltb last (u64_at p at) && is_chain_after ltb (u64_at p at) (indices_in ((length p - (at + 8)) / 8) (drop (at + 8) p))) ≡ r
-  unfolding le_at
-  ascending_step h =
-      let w = a.whole in
-      let z : (length p - at) / 8 ≡ suc ((length p - (at + 8)) / 8) = omega arith in
-      rw (← drop-drop 8 at p) (rw z at a.left)
-
-  pub ascending_room : at < length p → at + 8 ≤ length p
-  ascending_room h = let w = a.whole in omega arith
-
-  pub ascending_not : {index : ℕ} → at < length p → index ≡ u64_at p at → index ≤ last → false ≡ r
-  ascending_not h e l = rw (← e, le-ltb last _ l) at (ascending_step h)
-
-  pub ascending_next : {index : ℕ} → at < length p → index ≡ u64_at p at → last < index → Ascending p index (at + 8) r
-  ascending_next h e l =
-      let w = a.whole in
-      record { inside = omega arith; whole = omega arith; left = rw (← e, lt-ltb last _ l) at (ascending_step h) }
-
-  pub ascending_end : length p ≤ at → true ≡ r
-  ascending_end h =
-      let z : (length p - at) / 8 ≡ 0 = omega arith in
-      rw z at a.left
+deleted_is p {chunks} {r} e h w a = rw (le-leb 1 (length p) h, eq-eqb (length p % 8) 0 w, ← chunk_indices (length p / 8) p, ← e) (go chunks r a)
+  where
+    go : (xs : List Bytes) (b : Bool) → IsAllAdjacentAnswer Rising xs b → b ≡ is_chain ltb (map index_of xs)
+    go [] true a = refl
+    go [] false a = absurd (omega (arith, a.1))
+    go (x ∷ xs) true a = all_rising x xs a
+    go (x ∷ xs) false a = one_falling x xs a.0 a.1 a.2
 
 -- what follows a count: nothing, or the paragraphs of a comment
 module _ (p : Bytes) (h : 2 ≤ length p) where
-  abbrev rest : Bytes
+  abbrev pub rest : Bytes
   rest = take (length p - 2) (drop 2 p)
 
   pub counted_none : {count : ℕ} → length rest ≡ 0 → count ≡ u16_at p 0 → eqb count 0 ≡ is_counted p
@@ -66,15 +75,16 @@ module _ (p : Bytes) (h : 2 ≤ length p) where
       let d : drop 2 p ≡ [] = drop_of_length-le p {i = 2} (omega (arith, length-take (length p - 2) (drop 2 p), length-drop 2 p)) in
       rw (n, le-leb 2 (length p) h, d)
 
-  module _ (some : length rest ≡ 0 → ⊥) {x : Bool} (e : x ≡ is_comment rest) where
+  -- which are a comment's where x
+  module _ (some : 1 ≤ length rest) {x : Bool} (e : is_comment rest ≡ x) where
     are_comment : are_paragraphs 32 (drop 2 p) ≡ x
     unfolding is_comment
-    are_comment = let l : 1 ≤ length rest = omega arith in sym (e ∙ rw (le-leb 1 (length rest) l, part_from p 2))
+    are_comment = rw (le-leb 1 (length rest) some, part_from p 2) at e
 
-    pub counted_not : not x ≡ true → false ≡ is_counted p
+    pub counted_not : x ≡ false → false ≡ is_counted p
     unfolding is_counted
-    counted_not n = rw (le-leb 2 (length p) h, are_comment, not-true x n)
+    counted_not n = rw (le-leb 2 (length p) h, are_comment, n)
 
-    pub counted_all : {count n : ℕ} → not x ≡ false → count ≡ u16_at p 0 → n ≡ length (paragraphs_of rest) → eqb count n ≡ is_counted p
+    pub counted_all : {count n : ℕ} → x ≡ true → count ≡ u16_at p 0 → n ≡ length (paragraphs_of rest) → eqb count n ≡ is_counted p
     unfolding is_counted
-    counted_all f a b = rw (le-leb 2 (length p) h, are_comment, not-false x f, a, b, part_from p 2)
+    counted_all f a b = rw (le-leb 2 (length p) h, are_comment, f, a, b, part_from p 2)

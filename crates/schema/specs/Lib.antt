@@ -8,4 +8,5 @@ pub mod Table
 pub mod Decode
 pub mod Walk
 pub mod Checked
+pub mod Kinds
 pub mod Limits

@@ -1,5 +1,5 @@
 -- Document 01, "Tables": what a schema table is. R9 stands for all other bytes.
-use Rattle.std.specs.Prelude.{ℕ, zero, suc, ◌+◌, ◌-◌, Bool, true, false, ◌&&◌, ◌||◌, List, [], ◌∷◌, leb, eqb}
+use Rattle.std.specs.Prelude.{ℕ, ◌≡◌, zero, suc, ◌+◌, ◌-◌, Bool, true, false, ◌&&◌, ◌||◌, List, [], ◌∷◌, leb, eqb}
 use Rattle.wire.specs.Bytes.{Bytes}
 use Rattle.wire.specs.Pick.{pick}
 use Rattle.identifier.specs.Order.{is_before}
@@ -70,6 +70,17 @@ is_next last row r = is_right last.kind row r.kind r.payload && is_later last.ki
 abbrev pub are_next : Token → ℕ → List Token → Bool
 are_next last row [] = may_follow last.kind 0
 are_next last row (r ∷ rs) = is_next last row r && are_next r (row_after row r.kind) rs
+
+-- a record by its kind and its payload, which are all that the next one is judged by
+abbrev pub seen : ℕ → Bytes → Token
+seen kind payload = record { kind = kind; start = 0; end = 0; payload = payload }
+
+-- r is right after `last` and `row` arrays, and leaves these
+pub record Adds (last : Token) (row : ℕ) (r : Token) (kind : ℕ) (payload : Bytes) (row' : ℕ) : Type 0 where
+  pub right : is_next last row r ≡ true
+  pub is : kind ≡ r.kind
+  pub holds : payload ≡ r.payload
+  pub arrays : row' ≡ row_after row r.kind
 
 -- what stands before the first record
 abbrev pub outset : Token

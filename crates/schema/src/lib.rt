@@ -1,246 +1,198 @@
 // Schema tables: the check of document 01 (R9), and the walk over a table that passed it.
 #![tactic(auto)]
 
-ghost use Rattle.std.specs.Prelude.{◌≡◌, true, ◌+◌, ◌≤◌, ◌<◌, length};
-ghost use Rattle.identifier.specs.Byte.{class_of};
-ghost use Rattle.identifier.specs.Table.{table, Tables};
+ghost use Rattle.std.specs.Prelude.{◌≡◌, true, false, ◌+◌, ◌≤◌, ◌<◌, length, MatchOption};
+ghost use Rattle.wire.specs.Le.{u16_at};
 ghost use Rattle.identifier.specs.Order.{is_before};
-ghost use Rattle.token.specs.Kind.{is_plain};
-ghost use Rattle.schema.specs.Payload.{is_sized, name_of, after_name, is_named, is_import, is_counted, is_declaration, is_field, is_deleted, is_plain_type, is_custom, is_type_payload, is_payload};
-ghost use Rattle.schema.specs.Table.{is_outside, is_importing, is_type, may_follow, row_after, is_right, is_later, is_schema_table};
+ghost use Rattle.token.specs.Split.{held};
+ghost use Rattle.schema.specs.Kinds.{number_of, number_at};
+ghost use Rattle.schema.specs.Payload.{is_sized, name_of, after_name, is_named, is_import, is_counted, is_declaration, is_field};
+ghost use Rattle.schema.specs.Payload.{is_deleted, is_plain_type, is_custom, is_payload};
+ghost use Rattle.schema.specs.Table.{is_outside, is_importing, is_opening, is_inside, is_type, may_follow, row_after, is_later};
+ghost use Rattle.schema.specs.Table.{is_next, seen, Adds, is_schema_table};
 ghost use Rattle.schema.specs.Checked.{checked};
 ghost use Rattle.schema.specs.Walk.{kind_at, start_at, end_at, next_at, payload_at, WholeAt};
 
-use identifier::Order;
-
 pub mod kind;
 
-fn is_sized(p: &[u8]) -> bool
-    ensures { result ≡ is_sized p.now }
+use identifier::is_name;
+use kind::Kind;
+use token::kind::Kind as TokenKind;
+use token::{Record, split_record, split_sized};
+use wire::{Refusal, Refused};
+
+// Where a name ends that begins with its length.
+#[tactic(auto, unfolding(crate::specs::Payload::is_sized))]
+fn name_end(p: &[u8]) -> usize
+    requires { is_sized p.now ≡ true }
+    ensures end { result ≡ 2 + u16_at p.now 0 }
+    ensures inside { result ≤ length p.now }
 {
-    if p.len() < 2 {
-        return false;
-    }
-    let end = 2 + (wire::u16_at(p, 0) as usize);
-    end <= p.len()
+    2 + wire::u16_at(p, 0) as usize
 }
 
 // A name after its length, and what follows it.
+#[tactic(auto, unfolding(token::specs::Payload::paragraph_of))]
 pub fn name_of(p: &[u8]) -> &[u8]
     requires { is_sized p.now ≡ true }
     ensures { result.now ≡ name_of p.now }
 {
-    let end = 2 + (wire::u16_at(p, 0) as usize);
-    &p[2..end]
+    &p[2..name_end(p)]
 }
 
+#[tactic(auto, unfolding(token::specs::Payload::after_paragraph))]
 pub fn after_name(p: &[u8]) -> &[u8]
     requires { is_sized p.now ≡ true }
     ensures { result.now ≡ after_name p.now }
 {
-    let end = 2 + (wire::u16_at(p, 0) as usize);
-    &p[end..]
+    &p[name_end(p)..]
 }
 
-fn is_named(class: &[u8; 256], p: &[u8]) -> bool
-    requires { class.now ≡ table class_of }
-    ensures { result ≡ is_named p.now }
+// What follows the name that these bytes begin with, if they do.
+#[tactic(auto, unfolding(crate::specs::Payload::is_named, crate::specs::Payload::is_sized))]
+fn strip_name(p: &[u8]) -> Option<&[u8]>
+    ensures { MatchOption result (is_named p.now ≡ false) (λ rest. (is_named p.now ≡ true) × (rest.now ≡ after_name p.now)) }
 {
-    if !is_sized(p) {
-        return false;
-    }
-    identifier::tables::is_name(class, name_of(p))
+    let (name, rest) = split_sized(p)?;
+    if is_name(name) { Some(rest) } else { None }
 }
 
-fn is_import(class: &[u8; 256], p: &[u8]) -> bool
-    requires { class.now ≡ table class_of }
+#[tactic(auto, unfolding(crate::specs::Payload::is_import))]
+fn is_import(p: &[u8]) -> bool
     ensures { result ≡ is_import p.now }
 {
-    if !is_named(class, p) {
+    let Some(path) = strip_name(p) else {
         return false;
-    }
-    token::is_path(class, after_name(p))
+    };
+    token::is_path(path)
 }
 
-fn is_counted(class: &[u8; 256], p: &[u8]) -> bool
-    requires { class.now ≡ table class_of }
+#[tactic(auto, unfolding(crate::specs::Payload::is_counted))]
+fn is_counted(p: &[u8]) -> bool
     ensures { result ≡ is_counted p.now }
 {
     if p.len() < 2 {
         return false;
     }
     let count = wire::u16_at(p, 0);
-    let rest = &p[2..];
-    if rest.len() == 0 {
+    let comment = &p[2..];
+    if comment.is_empty() {
         return count == 0;
     }
-    if !token::is_comment(class, rest) {
-        return false;
-    }
-    count == token::paragraph_count(rest)
+    token::is_comment(comment) && count == token::paragraph_count(comment)
 }
 
-fn is_declaration(class: &[u8; 256], p: &[u8]) -> bool
-    requires { class.now ≡ table class_of }
+#[tactic(auto, unfolding(crate::specs::Payload::is_declaration))]
+fn is_declaration(p: &[u8]) -> bool
     ensures { result ≡ is_declaration p.now }
 {
-    if !is_named(class, p) {
+    let Some(comment) = strip_name(p) else {
         return false;
-    }
-    is_counted(class, after_name(p))
+    };
+    is_counted(comment)
 }
 
-fn is_field(class: &[u8; 256], p: &[u8]) -> bool
-    requires { class.now ≡ table class_of }
+#[tactic(auto, unfolding(crate::specs::Payload::is_field))]
+fn is_field(p: &[u8]) -> bool
     ensures { result ≡ is_field p.now }
 {
-    if p.len() < 9 {
-        return false;
-    }
-    if 2 < p[0] {
-        return false;
-    }
-    is_declaration(class, &p[9..])
+    9 <= p.len() && p[0] <= 2 && is_declaration(&p[9..])
 }
 
+#[tactic(auto, unfolding(crate::specs::Payload::is_deleted))]
 fn is_deleted(p: &[u8]) -> bool
     ensures { result ≡ is_deleted p.now }
 {
-    if p.len() < 1 {
+    let (indices, rest) = p.as_chunks::<8>();
+    if indices.is_empty() || !rest.is_empty() {
         return false;
     }
-    if p.len() % 8 != 0 {
-        return false;
-    }
-    let mut last = wire::u64_at(p, 0);
-    let mut at: usize = 8;
-    while at < p.len() {
-        let index = wire::u64_at(p, at);
-        if index <= last {
-            return false;
-        }
-        last = index;
-        at += 8;
-    }
-    true
+    indices.is_sorted_by(|a, b| wire::u64_at(a, 0) < wire::u64_at(b, 0))
 }
 
-fn is_plain(kind: u16) -> bool
-    ensures { result ≡ is_plain kind }
-{
-    (kind == token::kind::BOOL)
-        | ((kind == token::kind::BYTES)
-            | ((kind == token::kind::F64)
-                | ((kind == token::kind::S64)
-                    | ((kind == token::kind::STRING)
-                        | ((kind == token::kind::U64) | (kind == token::kind::UNIT))))))
-}
-
+#[tactic(auto, unfolding(crate::specs::Payload::is_plain_type))]
 fn is_plain_type(p: &[u8]) -> bool
     ensures { result ≡ is_plain_type p.now }
 {
-    if p.len() != 2 {
-        return false;
-    }
-    is_plain(wire::u16_at(p, 0))
+    p.len() == 2 && TokenKind::try_from(wire::u16_at(p, 0)).is_ok_and(TokenKind::is_plain)
 }
 
-fn is_custom(class: &[u8; 256], p: &[u8]) -> bool
-    requires { class.now ≡ table class_of }
+#[tactic(auto, unfolding(crate::specs::Payload::is_custom, crate::specs::Payload::is_sized))]
+fn is_custom(p: &[u8]) -> bool
     ensures { result ≡ is_custom p.now }
 {
-    if !is_sized(p) {
+    let Some((import, name)) = split_sized(p) else {
         return false;
-    }
-    if wire::u16_at(p, 0) == 0 {
-        return identifier::tables::is_name(class, after_name(p));
-    }
-    if !identifier::tables::is_name(class, name_of(p)) {
-        return false;
-    }
-    identifier::tables::is_name(class, after_name(p))
+    };
+    (import.is_empty() || is_name(import)) && is_name(name)
 }
 
-fn is_type_payload(class: &[u8; 256], kind: u16, p: &[u8]) -> bool
-    requires { class.now ≡ table class_of }
-    ensures { result ≡ is_type_payload kind p.now }
+#[tactic(auto, unfolding(crate::specs::Payload::is_payload, crate::specs::Payload::is_type_payload, wire::specs::Pick::pick))]
+fn is_payload(kind: Kind, p: &[u8]) -> bool
+    ensures { result ≡ is_payload (number_of kind) p.now }
 {
-    if kind == kind::ARRAY {
-        return p.len() == 0;
+    match kind {
+        Kind::Comment => token::is_comment(p),
+        Kind::Import => is_import(p),
+        Kind::Struct | Kind::Choice => is_declaration(p),
+        Kind::Field => is_field(p),
+        Kind::Deleted => is_deleted(p),
+        Kind::Array => p.is_empty(),
+        Kind::Plain => is_plain_type(p),
+        Kind::Custom => is_custom(p),
     }
-    if kind == kind::PLAIN {
-        return is_plain_type(p);
-    }
-    if kind == kind::CUSTOM {
-        return is_custom(class, p);
-    }
-    false
 }
 
-fn is_payload(class: &[u8; 256], kind: u16, p: &[u8]) -> bool
-    requires { class.now ≡ table class_of }
-    ensures { result ≡ is_payload kind p.now }
+// None is a table's start or its end.
+fn is_outside(kind: Option<Kind>) -> bool
+    ensures { result ≡ is_outside (number_at kind) }
 {
-    if kind == kind::COMMENT {
-        return token::is_comment(class, p);
-    }
-    if kind == kind::IMPORT {
-        return is_import(class, p);
-    }
-    if (kind == kind::STRUCT) | (kind == kind::CHOICE) {
-        return is_declaration(class, p);
-    }
-    if kind == kind::FIELD {
-        return is_field(class, p);
-    }
-    if kind == kind::DELETED {
-        return is_deleted(p);
-    }
-    is_type_payload(class, kind, p)
+    matches!(kind, None | Some(Kind::Struct | Kind::Choice))
 }
 
-fn is_outside(k: u16) -> bool
-    ensures { result ≡ is_outside k }
+fn is_importing(kind: Option<Kind>) -> bool
+    ensures { result ≡ is_importing (number_at kind) }
 {
-    (k == 0) | ((k == kind::STRUCT) | (k == kind::CHOICE))
+    matches!(kind, Some(Kind::Import)) || is_outside(kind)
 }
 
-fn is_importing(k: u16) -> bool
-    ensures { result ≡ is_importing k }
+fn is_opening(kind: Option<Kind>) -> bool
+    ensures { result ≡ is_opening (number_at kind) }
 {
-    (k == kind::IMPORT) | is_outside(k)
+    matches!(kind, Some(Kind::Comment)) || is_importing(kind)
 }
 
-fn is_type(k: u16) -> bool
-    ensures { result ≡ is_type k }
+fn is_inside(kind: Option<Kind>) -> bool
+    ensures { result ≡ is_inside (number_at kind) }
 {
-    (k == kind::ARRAY) | ((k == kind::PLAIN) | (k == kind::CUSTOM))
+    matches!(kind, Some(Kind::Field | Kind::Deleted)) || is_outside(kind)
 }
 
-fn may_follow(last: u16, k: u16) -> bool
-    ensures { result ≡ may_follow last k }
+fn is_type(kind: Option<Kind>) -> bool
+    ensures { result ≡ is_type (number_at kind) }
 {
-    if last == 0 {
-        return (k == kind::COMMENT) | is_importing(k);
+    matches!(kind, Some(Kind::Array | Kind::Plain | Kind::Custom))
+}
+
+#[tactic(auto, unfolding(crate::specs::Table::may_follow, wire::specs::Pick::pick))]
+fn may_follow(last: Option<Kind>, kind: Option<Kind>) -> bool
+    ensures { result ≡ may_follow (number_at last) (number_at kind) }
+{
+    match last {
+        None => is_opening(kind),
+        Some(Kind::Comment | Kind::Import) => is_importing(kind),
+        Some(Kind::Field | Kind::Array) => is_type(kind),
+        Some(Kind::Deleted) => is_outside(kind),
+        Some(Kind::Struct | Kind::Choice | Kind::Plain | Kind::Custom) => is_inside(kind),
     }
-    if (last == kind::COMMENT) | (last == kind::IMPORT) {
-        return is_importing(k);
-    }
-    if (last == kind::FIELD) | (last == kind::ARRAY) {
-        return is_type(k);
-    }
-    if last == kind::DELETED {
-        return is_outside(k);
-    }
-    (k == kind::FIELD) | ((k == kind::DELETED) | is_outside(k))
 }
 
 // The record at a place: its kind, its source range, what it holds, and the place after it.
-pub fn kind_at(t: &[u8], at: usize) -> u16
-    requires { at + 4 ≤ length t.now }
-    ensures { result ≡ kind_at t.now at }
+pub fn kind_at(t: &[u8], at: usize) -> Kind
+    requires { (WholeAt t.now at) × (is_payload (kind_at t.now at) (payload_at t.now at) ≡ true) }
+    ensures { number_of result ≡ kind_at t.now at }
 {
-    wire::u16_at(t, at + 2)
+    Kind::try_from(wire::u16_at(t, at + 2)).unwrap()
 }
 
 pub fn start_at(t: &[u8], at: usize) -> u32
@@ -272,103 +224,103 @@ pub fn payload_at(t: &[u8], at: usize) -> &[u8]
     &t[at + 12..next]
 }
 
-fn is_before(class: &[u8; 256], lower: &[u8; 256], upper: &[u8; 256], a: &[u8], b: &[u8]) -> bool
-    requires { Tables class.now lower.now upper.now }
+#[tactic(auto, unfolding(identifier::specs::Order::is_before))]
+fn is_before(a: &[u8], b: &[u8]) -> bool
     ensures { result ≡ is_before a.now b.now }
 {
-    match identifier::compare_in(class, lower, upper, a, b) {
-        Order::Less => true,
-        Order::Equal => false,
-        Order::Greater => false,
-    }
+    identifier::compare(a, b).is_lt()
 }
 
-fn row_after(row: usize, k: u16) -> usize
+#[tactic(auto, unfolding(crate::specs::Table::row_after, wire::specs::Pick::pick))]
+fn row_after(row: usize, kind: Kind) -> usize
     requires { row ≤ 64 }
-    ensures { result ≡ row_after row k }
+    ensures { result ≡ row_after row (number_of kind) }
 {
-    if k == kind::ARRAY {
-        return row + 1;
+    match kind {
+        Kind::Array => row + 1,
+        _ => 0,
     }
-    0
 }
 
-fn is_right(class: &[u8; 256], last: u16, row: usize, k: u16, p: &[u8]) -> bool
-    requires { (class.now ≡ table class_of) × (row ≤ 64) }
-    ensures { result ≡ is_right last row k p.now }
-{
-    if !may_follow(last, k) {
-        return false;
-    }
-    if !is_payload(class, k, p) {
-        return false;
-    }
-    row_after(row, k) <= 64
+// What the records so far leave: the last one's kind and payload, none and empty before the first, and how many arrays in a row.
+#[derive(Clone, Copy, Drop)]
+struct Before<'a> {
+    kind: Option<Kind>,
+    payload: &'a [u8],
+    row: usize,
+    ghost shallow: { row ≤ 64 },
+    ghost sized: { number_at kind ≡ 102 → is_sized payload.now ≡ true },
 }
 
-fn is_later(
-    class: &[u8; 256],
-    lower: &[u8; 256],
-    upper: &[u8; 256],
-    last: u16,
-    p: &[u8],
-    k: u16,
-    q: &[u8],
-) -> bool
-    requires { Tables class.now lower.now upper.now × (k ≡ 102 → last ≡ 102 → (is_sized p.now ≡ true) × (is_sized q.now ≡ true)) }
-    ensures { result ≡ is_later last p.now k q.now }
-{
-    if (k == kind::IMPORT) & (last == kind::IMPORT) {
-        return is_before(class, lower, upper, name_of(p), name_of(q));
+impl<'a> Before<'a> {
+    // Imports ascend by snake case.
+    #[tactic(auto, unfolding(crate::specs::Table::is_later, wire::specs::Pick::pick))]
+    fn is_later(self, kind: Kind, p: &[u8]) -> bool
+        requires { number_of kind ≡ 102 → is_sized p.now ≡ true }
+        ensures { result ≡ is_later (number_at self.entry.kind) self.entry.payload.now (number_of kind) p.now }
+    {
+        match (self.kind, kind) {
+            (Some(Kind::Import), Kind::Import) => is_before(name_of(self.payload), name_of(p)),
+            _ => true,
+        }
     }
-    true
+
+    // With one more record, if it is right after them.
+    #[tactic(auto, using(crate::proofs::Judging::of_payloads), unfolding(crate::specs::Table::is_next, crate::specs::Table::is_right))]
+    fn add(self, r: Record<'a>) -> Option<Before<'a>>
+        ensures { let last = seen (number_at self.entry.kind) self.entry.payload.now in MatchOption result (is_next last self.entry.row (held r.entry) ≡ false)
+            (λ b. Adds last self.entry.row (held r.entry) (number_at b.kind) b.payload.now b.row) }
+    {
+        let Ok(kind) = Kind::try_from(r.kind) else {
+            return None;
+        };
+        let payload = r.payload;
+        if !may_follow(self.kind, Some(kind)) || !is_payload(kind, payload) {
+            return None;
+        }
+        let row = row_after(self.row, kind);
+        if 64 < row || !self.is_later(kind, payload) {
+            return None;
+        }
+        Some(Before {
+            kind: Some(kind),
+            payload,
+            row,
+        })
+    }
 }
 
-fn is_table(class: &[u8; 256], lower: &[u8; 256], upper: &[u8; 256], t: &[u8]) -> bool
-    requires { Tables class.now lower.now upper.now }
+fn is_table(t: &[u8]) -> bool
     ensures { result ≡ is_schema_table t.now }
 {
-    let mut at: usize = 0;
-    let mut last: usize = 0;
-    let mut kind: u16 = 0;
-    let mut row: usize = 0;
-    while at < t.len() {
-        if !token::is_whole(&t[at..]) {
+    let mut before = Before {
+        kind: None,
+        payload: &[],
+        row: 0,
+    };
+    let mut rest = t;
+    while !rest.is_empty() {
+        let Some((record, after)) = split_record(rest) else {
             return false;
-        }
-        let k = kind_at(t, at);
-        let p = payload_at(t, at);
-        if !is_right(class, kind, row, k, p) {
+        };
+        let Some(next) = before.add(record) else {
             return false;
-        }
-        if !is_later(class, lower, upper, kind, payload_at(t, last), k, p) {
-            return false;
-        }
-        row = row_after(row, k);
-        kind = k;
-        last = at;
-        at = next_at(t, at);
+        };
+        before = next;
+        rest = after;
     }
-    may_follow(kind, 0)
+    may_follow(before.kind, None)
 }
 
-#[derive(Clone, Copy, Drop)]
-pub enum Checked {
-    Refused(u16),
-    Fine,
-}
-
-pub fn check(t: &[u8]) -> Checked
+#[tactic(auto, unfolding(crate::specs::Checked::checked, crate::specs::Decode::decode_schema, wire::specs::Pick::pick))]
+pub fn check(t: &[u8]) -> Result<(), Refused>
     ensures { result ≡ checked t.now }
 {
     if 131072 < t.len() {
-        return Checked::Refused(1);
+        return Err(Refusal::TableTooLong.into());
     }
-    let class = identifier::tables::class_table();
-    let lower = identifier::tables::lower_table();
-    let upper = identifier::tables::upper_table();
-    if is_table(&class, &lower, &upper, t) {
-        return Checked::Fine;
+    if !is_table(t) {
+        return Err(Refusal::NotASchema.into());
     }
-    Checked::Refused(9)
+    Ok(())
 }

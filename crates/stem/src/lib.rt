@@ -9,27 +9,15 @@ ghost use Rattle.stem.specs.Part.{IsPart};
 fn is_kept(part: &[u8]) -> bool
     ensures { result ≡ kept part.now }
 {
-    if part.len() == 0 {
-        return false;
-    }
-    if part.len() == 1 {
-        return part[0] != b'.';
-    }
-    true
+    !matches!(part, [] | [b'.'])
 }
 
 // Whether a part is `..`.
+#[tactic(auto, unfolding(crate::specs::Stem::is_parent))]
 fn is_parent(part: &[u8]) -> bool
     ensures { result ≡ is_parent part.now }
 {
-    if part.len() != 2 {
-        return false;
-    }
-    if part[0] == b'.' {
-        part[1] == b'.'
-    } else {
-        false
-    }
+    matches!(part, [b'.', b'.'])
 }
 
 // A part of some bytes, from a place up to another.
@@ -43,26 +31,23 @@ pub struct Part {
 fn last_part(path: &[u8]) -> Part
     ensures { IsPart path.now (last_part path.now) result }
 {
-    let mut from = 0;
-    let mut to = 0;
+    let mut last = Part { from: 0, to: 0 };
     let mut start = 0;
-    let mut i = 0;
-    while i < path.len() {
-        let at = i;
-        i += 1;
-        if path[at] == b'/' {
-            let begun = start;
-            start = i;
-            if is_kept(&path[begun..at]) {
-                from = begun;
-                to = at;
+    for (i, b) in path.iter().enumerate() {
+        if *b == b'/' {
+            if is_kept(&path[start..i]) {
+                last = Part { from: start, to: i };
             }
+            start = i + 1;
         }
     }
-    if is_kept(&path[start..i]) {
-        return Part { from: start, to: i };
+    if is_kept(&path[start..]) {
+        return Part {
+            from: start,
+            to: path.len(),
+        };
     }
-    Part { from, to }
+    last
 }
 
 // The place of the last dot, or 0.
@@ -70,12 +55,9 @@ fn last_dot(part: &[u8]) -> usize
     ensures { result ≡ last_dot 0 0 part.now }
 {
     let mut best = 0;
-    let mut i = 0;
-    while i < part.len() {
-        let at = i;
-        i += 1;
-        if part[at] == b'.' {
-            best = at;
+    for (i, b) in part.iter().enumerate() {
+        if *b == b'.' {
+            best = i;
         }
     }
     best
@@ -86,18 +68,19 @@ pub fn find(path: &[u8]) -> Part
     ensures { IsPart path.now (stem_of path.now) result }
 {
     let last = last_part(path);
-    let from = last.from;
-    let to = last.to;
-    if is_parent(&path[from..to]) {
-        return Part { from, to: from };
+    let part = &path[last.from..last.to];
+    if is_parent(part) {
+        return Part {
+            from: last.from,
+            to: last.from,
+        };
     }
-    let dot = last_dot(&path[from..to]);
-    if dot == 0 {
-        return last;
-    }
-    Part {
-        from,
-        to: from + dot,
+    match last_dot(part) {
+        0 => last,
+        dot => Part {
+            from: last.from,
+            to: last.from + dot,
+        },
     }
 }
 
@@ -106,16 +89,14 @@ pub fn stem(path: &[u8]) -> &[u8]
     ensures { result.now ≡ stem_of path.now }
 {
     let found = find(path);
-    let from = found.from;
-    let to = found.to;
-    &path[from..to]
+    &path[found.from..found.to]
 }
 
-// The name of an import: its identifier, and where that is empty the stem of its path.
+// The name of an import: its identifier, and where that is empty the stem of its path. It is a part of one of the two, never a copy.
 pub fn import_name<'a>(path: &'a [u8], identifier: &'a [u8]) -> &'a [u8]
     ensures { result.now ≡ import_name path.now identifier.now }
 {
-    if identifier.len() == 0 {
+    if identifier.is_empty() {
         return stem(path);
     }
     identifier

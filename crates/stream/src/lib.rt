@@ -9,41 +9,22 @@ ghost use Rattle.stream.specs.Number.{InFourBytes};
 // A list has fewer entries than this: nothing says that an input ends, and a loop has to.
 const ENTRIES: u64 = 1000000;
 
-#[derive(Clone, Copy, Drop)]
-pub enum Next {
-    End,
-    Number(usize),
-}
-
-// Four bytes, little-endian.
-pub fn next_number() -> Next
+// Four bytes, little-endian; none where the input ends before.
+pub fn next_number() -> Option<usize>
     ensures { InFourBytes result }
 {
-    let mut bytes = [0u8; 4];
-    let got = io::read_full(0, &mut bytes);
-    if got < 4 {
-        return Next::End;
+    let mut bytes = [0; 4];
+    if io::read_full(0, &mut bytes) < 4 {
+        return None;
     }
-    Next::Number(wire::u32_at(&bytes, 0) as usize)
-}
-
-fn least(a: usize, b: usize) -> usize
-    ensures { (result ≤ a) × (result ≤ b) }
-{
-    if a < b { a } else { b }
-}
-
-fn read_some(into: &mut [u8]) -> usize
-    ensures { result ≤ length into.old }
-{
-    io::read_full(0, into)
+    Some(wire::u32_at(&bytes, 0) as usize)
 }
 
 fn skip(size: usize, spare: &mut [u8]) {
     let mut left = size;
     while 0 < left {
-        let n = least(left, spare.len());
-        let got = read_some(&mut spare[..n]);
+        let n = left.min(spare.len());
+        let got = io::read_full(0, &mut spare[..n]);
         if got == 0 {
             return;
         }
@@ -55,8 +36,8 @@ fn skip(size: usize, spare: &mut [u8]) {
 pub fn next_bytes(size: usize, into: &mut [u8], spare: &mut [u8]) -> usize
     ensures { result ≤ length into.old }
 {
-    let n = least(size, into.len());
-    let got = read_some(&mut into[..n]);
+    let n = size.min(into.len());
+    let got = io::read_full(0, &mut into[..n]);
     skip(size - n, spare);
     got
 }
@@ -82,13 +63,14 @@ pub fn answer(t: &[u8], schema: &mut [u8; 65536], text: &mut [u8; 147456])
     show(text, end);
 }
 
+// Whether there was a table.
 fn answer_next(
     n: u64,
     table: &mut [u8],
     schema: &mut [u8; 65536],
     text: &mut [u8; 147456],
 ) -> bool {
-    let Next::Number(size) = next_number() else {
+    let Some(size) = next_number() else {
         return false;
     };
     let got = next_bytes(size, table, text);
@@ -97,18 +79,15 @@ fn answer_next(
     true
 }
 
-fn answer_each(table: &mut [u8], schema: &mut [u8; 65536], text: &mut [u8; 147456]) {
-    let mut n: u64 = 1;
-    while n < ENTRIES && answer_next(n, table, schema, text) {
-        n += 1;
-    }
-}
-
 // Each table of a list, after its length: a line with its number, then what typefmt prints of it. A longer table than 65,537 bytes prints what
 // its first 65,537 do.
 pub fn answer_all() {
-    let mut table = [0u8; 65537];
-    let mut schema = [0u8; 65536];
-    let mut text = [0u8; 147456];
-    answer_each(&mut table, &mut schema, &mut text);
+    let mut table = [0; 65537];
+    let mut schema = [0; 65536];
+    let mut text = [0; 147456];
+    for n in 1..ENTRIES {
+        if !answer_next(n, &mut table, &mut schema, &mut text) {
+            return;
+        }
+    }
 }

@@ -16,7 +16,7 @@ use Rattle.wire.specs.Decimal.{decimal}
 use Rattle.wire.proofs.Numbers.{AllBytes, le_bytes-length, decimal_small, decimal_step}
 use Rattle.identifier.specs.Byte.{within, is_printable}
 use Rattle.identifier.specs.Forms.{snake_of, pascal_of}
-use Rattle.identifier.proofs.Length.{form_short}
+use Rattle.identifier.proofs.Length as form
 use Rattle.token.specs.Payload.{is_spaced, is_paragraph, paragraph_bytes, all_paragraphs}
 use Rattle.token.specs.Token.{Token}
 use Rattle.token.specs.Table.{encode_tokens}
@@ -49,15 +49,13 @@ record_length kind start end payload = rw (length-append, head_length)
 
 -- names
 snake_short : (name : Bytes) → length (snake_of name) ≤ 2 * length name
-unfolding snake_of
-snake_short name = omega (arith, form_short false true name)
+snake_short name = omega (arith, form.snake_short name)
 
 pascal_short : (name : Bytes) → length (pascal_of name) ≤ 2 * length name
-unfolding pascal_of
-pascal_short name = omega (arith, form_short true false name)
+pascal_short name = omega (arith, form.pascal_short name)
 
 -- numbers
-decimal_short : (k n : ℕ) → n < 10 ^ suc k → length (decimal n) ≤ suc k
+pub decimal_short : (k n : ℕ) → n < 10 ^ suc k → length (decimal n) ≤ suc k
 decimal_short zero n h = rw (decimal_small n (omega arith)) (omega arith)
 decimal_short (suc k) n h = go (ltb n 10) refl (decimal_short k (n / 10) (omega (arith, rw pow-succ' at h)))
   where

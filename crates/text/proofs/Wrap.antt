@@ -169,7 +169,7 @@ wrap_greedy width p =
     ).1
 
 -- a paragraph that fits is one line
-wrap_line : (width : ℕ) (l : Bytes) → Fits width l → wrap width l ≡ l ∷ []
+pub wrap_line : (width : ℕ) (l : Bytes) → Fits width l → wrap width l ≡ l ∷ []
 unfolding wrap
 wrap_line width l f = rw append-nil at (takes_line width l [] f)
 
@@ -181,7 +181,7 @@ first_joined : (l : Bytes) (ls : List Bytes) → (words_of (joined (l ∷ ls))).
 first_joined l [] = ap (λ (x : Bytes). (words_of x).first) (append-nil l)
 first_joined l (m ∷ ls) = first_append l (joined (m ∷ ls))
 
-wrap-cons : (width : ℕ) (l p : Bytes) → Fits width l → width < length l + 1 + length (words_of p).first → wrap width (l ++ (32 ∷ p)) ≡ l ∷ wrap width p
+pub wrap-cons : (width : ℕ) (l p : Bytes) → Fits width l → width < length l + 1 + length (words_of p).first → wrap width (l ++ (32 ∷ p)) ≡ l ∷ wrap width p
 unfolding wrap
 wrap-cons width l p f h =
     rw (first_append l p, later_append l p) (takes_line width l ((words_of p).first ∷ (words_of p).later) f

@@ -1,5 +1,5 @@
 -- Document 01, "Canonical text": paragraphs wrap at a width, each line taking as many whole words as fit; a longer word stands alone.
-use Rattle.std.specs.Prelude.{ℕ, ◌+◌, true, false, List, [], ◌∷◌, ◌++◌, eqb, leb, length, drop}
+use Rattle.std.specs.Prelude.{ℕ, ◌+◌, ◌<◌, ◌≡◌, true, false, List, [], ◌∷◌, ◌++◌, eqb, leb, length, take, drop, Option, MatchOption}
 use Rattle.wire.specs.Bytes.{Bytes}
 
 -- what stands before the first space, and what stands between the later ones
@@ -30,3 +30,7 @@ wrap width paragraph = lines_from width (words_of paragraph).first (words_of par
 -- where the word ends that begins at i
 unfoldable pub word_end : Bytes → ℕ → ℕ
 word_end s i = i + length (words_of (drop i s)).first
+
+-- the place of the space that parts the first line from the others, where there are any
+abbrev pub LineEnds : ℕ → Bytes → Option ℕ → Type 0
+LineEnds width s r = MatchOption r (wrap width s ≡ s ∷ []) (λ end. (end < length s) × (wrap width s ≡ take end s ∷ wrap width (drop (end + 1) s)))

@@ -1,254 +1,213 @@
 // The canonical text of a schema, as schema.rs writes it.
 #![tactic(auto)]
 
-ghost use Rattle.std.specs.Prelude.{◌≡◌, true, ◌≤◌, ◌%◌, length, drop};
+ghost use Rattle.std.specs.Prelude.{◌≡◌, true, ◌≤◌, length, drop};
 ghost use mathlib.Core.List.{flat_map};
-ghost use Rattle.wire.specs.Put.{Wrote};
+ghost use Rattle.wire.specs.Puts.{Puts};
+ghost use Rattle.token.specs.Kinds.{number_of};
 ghost use Rattle.token.specs.Payload.{are_paragraphs, paragraphs_of};
+ghost use Rattle.schema.specs.Kinds as schema_kinds;
 ghost use Rattle.schema.specs.Payload.{is_declaration, is_deleted, name_of, after_name, indices_of};
 ghost use Rattle.schema.specs.Decode.{optional, rule_of, variant_of, comment_of};
-ghost use Rattle.text.specs.Wrap.{word_end};
+ghost use Rattle.text.specs.Wrap.{LineEnds};
 ghost use Rattle.text.specs.Text.{blank, line_text, paragraph_text, mark, comment_text, is_inferred, import_text, plain_text, custom_text, rule_text, field_name, field_index, index_text, deleted_text, variant_text, head_text};
+
+use identifier::{put_pascal, put_snake};
+use schema::kind::Kind as SchemaKind;
+use token::kind::Kind;
+use wire::Writer;
 
 const MAX_COLUMNS: usize = 79;
 
-// The end of the word that begins at i: the next space, or the end.
-fn word_end(s: &[u8], i: usize) -> usize
-    ensures { result ≡ word_end s.now i }
+fn put_line(w: &mut Writer, indentation: &[u8], line: &[u8])
+    ensures { Puts w.old (line_text indentation.now line.now) w.new }
 {
-    let mut j = i;
-    while j < s.len() {
-        if s[j] == b' ' {
-            return j;
-        }
-        j += 1;
-    }
-    j
+    w.put_slice(indentation);
+    w.put_slice(b"# ");
+    w.put_slice(line);
+    w.put_byte(b'\n');
 }
 
-fn put_line(out: &mut [u8], at: usize, indentation: &[u8], line: &[u8]) -> usize
-    ensures { Wrote out.old at (line_text indentation.now line.now) out.new result }
+// Where a paragraph's first line ends, if another follows: at the last space that keeps it within the width, or else after the first word.
+fn line_end(s: &[u8], width: usize) -> Option<usize>
+    ensures { LineEnds width s.now result }
 {
-    let a = wire::put_slice(out, at, indentation);
-    let b = wire::put_slice(out, a, b"# ");
-    let c = wire::put_slice(out, b, line);
-    wire::put_byte(out, c, b'\n')
+    if s.len() <= width {
+        return None;
+    }
+    match s[..=width].iter().rposition(|b| *b == b' ') {
+        Some(end) => Some(end),
+        None => s.iter().position(|b| *b == b' '),
+    }
 }
 
-// The lines are parts of the paragraph: a line ends where the next word would not fit.
-fn put_lines(out: &mut [u8], at: usize, indentation: &[u8], s: &[u8]) -> usize
-    requires { length indentation.now ≤ 77 }
-    ensures { Wrote out.old at (paragraph_text indentation.now s.now) out.new result }
+fn put_paragraph(w: &mut Writer, indentation: &[u8], s: &[u8])
+    ensures { Puts w.old (paragraph_text indentation.now s.now) w.new }
 {
-    let width = MAX_COLUMNS - indentation.len() - 2;
-    let mut a = at;
-    let mut start: usize = 0;
-    let mut end = word_end(s, 0);
-    while end < s.len() {
-        let left = end;
-        let next = end + 1;
-        end = word_end(s, next);
-        if width < end - start {
-            a = put_line(out, a, indentation, &s[start..left]);
-            start = next;
-        }
+    let width = (MAX_COLUMNS - 2).saturating_sub(indentation.len());
+    let mut rest = s;
+    while let Some(end) = line_end(rest, width) {
+        let (line, left) = rest.split_at(end);
+        put_line(w, indentation, line);
+        rest = &left[1..];
     }
-    put_line(out, a, indentation, &s[start..])
-}
-
-// A paragraph that fits one line is not searched for words.
-fn put_paragraph(out: &mut [u8], at: usize, indentation: &[u8], s: &[u8]) -> usize
-    requires { length indentation.now ≤ 77 }
-    ensures { Wrote out.old at (paragraph_text indentation.now s.now) out.new result }
-{
-    if s.len() <= MAX_COLUMNS - indentation.len() - 2 {
-        return put_line(out, at, indentation, s);
-    }
-    put_lines(out, at, indentation, s)
+    put_line(w, indentation, rest);
 }
 
 // A line of `#` before a paragraph, where it comes later than another.
-fn put_mark(out: &mut [u8], at: usize, indentation: &[u8], later: bool) -> usize
-    ensures { Wrote out.old at (mark indentation.now later) out.new result }
+fn put_mark(w: &mut Writer, indentation: &[u8], later: bool)
+    ensures { Puts w.old (mark indentation.now later) w.new }
 {
     if later {
-        let a = wire::put_slice(out, at, indentation);
-        return wire::put_slice(out, a, b"#\n");
+        w.put_slice(indentation);
+        w.put_slice(b"#\n");
     }
-    at
 }
 
 // A comment, from its paragraphs as a table has them.
-pub fn put_comment(out: &mut [u8], at: usize, indentation: &[u8], ps: &[u8]) -> usize
-    requires { (length indentation.now ≤ 77) × (are_paragraphs 32 ps.now ≡ true) }
-    ensures { Wrote out.old at (comment_text indentation.now (paragraphs_of ps.now)) out.new result }
+pub fn put_comment(w: &mut Writer, indentation: &[u8], ps: &[u8])
+    requires { are_paragraphs 32 ps.now ≡ true }
+    ensures { Puts w.old (comment_text indentation.now (paragraphs_of ps.now)) w.new }
 {
-    let mut a = at;
-    let mut i: usize = 0;
-    while i < ps.len() {
-        let start = i + 2;
-        let end = start + (wire::u16_at(ps, i) as usize);
-        let m = put_mark(out, a, indentation, i != 0);
-        i = end;
-        a = put_paragraph(out, m, indentation, &ps[start..end]);
+    let mut rest = ps;
+    while !rest.is_empty() {
+        put_mark(w, indentation, rest.len() < ps.len());
+        let size = wire::u16_at(rest, 0) as usize;
+        let (paragraph, left) = rest[2..].split_at(size);
+        put_paragraph(w, indentation, paragraph);
+        rest = left;
     }
-    a
 }
 
 // The comment of a declaration or a field, after its count. Most have none: a test here costs less than the call.
-fn put_counted(out: &mut [u8], at: usize, indentation: &[u8], p: &[u8]) -> usize
-    requires { (length indentation.now ≤ 77) × (2 ≤ length p.now) × (are_paragraphs 32 (drop 2 p.now) ≡ true) }
-    ensures { Wrote out.old at (comment_text indentation.now (comment_of p.now)) out.new result }
+fn put_counted(w: &mut Writer, indentation: &[u8], p: &[u8])
+    requires { (2 ≤ length p.now) × (are_paragraphs 32 (drop 2 p.now) ≡ true) }
+    ensures { Puts w.old (comment_text indentation.now (comment_of p.now)) w.new }
 {
-    if p.len() == 2 {
-        return at;
+    if 2 < p.len() {
+        put_comment(w, indentation, &p[2..]);
     }
-    put_comment(out, at, indentation, &p[2..])
 }
 
-pub fn put_blank(out: &mut [u8], at: usize, b: bool) -> usize
-    ensures { Wrote out.old at (blank b) out.new result }
+pub fn put_blank(w: &mut Writer, b: bool)
+    ensures { Puts w.old (blank b) w.new }
 {
     if b {
-        return wire::put_byte(out, at, b'\n');
+        w.put_byte(b'\n');
     }
-    at
 }
 
 fn is_inferred(name: &[u8], path: &[u8]) -> bool
     ensures { result ≡ is_inferred name.now path.now }
 {
     let inferred = stem::stem(path);
-    if inferred.len() == 0 {
-        return false;
-    }
-    identifier::same(inferred, name)
+    !inferred.is_empty() && identifier::same(inferred, name)
 }
 
-pub fn put_import(out: &mut [u8], at: usize, name: &[u8], path: &[u8]) -> usize
-    requires { length name.now ≤ 128 }
-    ensures { Wrote out.old at (import_text name.now path.now) out.new result }
+pub fn put_import(w: &mut Writer, name: &[u8], path: &[u8])
+    ensures { Puts w.old (import_text name.now path.now) w.new }
 {
-    let a = wire::put_slice(out, at, b"import '");
-    let b = wire::put_slice(out, a, path);
+    w.put_slice(b"import '");
+    w.put_slice(path);
     if is_inferred(name, path) {
-        return wire::put_slice(out, b, b"'\n");
+        w.put_slice(b"'\n");
+        return;
     }
-    let c = wire::put_slice(out, b, b"' as ");
-    let d = identifier::put_snake(out, c, name);
-    wire::put_byte(out, d, b'\n')
+    w.put_slice(b"' as ");
+    put_snake(w, name);
+    w.put_byte(b'\n');
 }
 
-pub fn put_plain(out: &mut [u8], at: usize, kind: u16) -> usize
-    ensures { Wrote out.old at (plain_text kind) out.new result }
+pub fn put_plain(w: &mut Writer, kind: Kind)
+    ensures { Puts w.old (plain_text (number_of kind)) w.new }
 {
-    if kind == token::kind::BOOL {
-        return wire::put_slice(out, at, b"Bool");
+    match kind {
+        Kind::Bool => w.put_slice(b"Bool"),
+        Kind::Bytes => w.put_slice(b"Bytes"),
+        Kind::F64 => w.put_slice(b"F64"),
+        Kind::S64 => w.put_slice(b"S64"),
+        Kind::String => w.put_slice(b"String"),
+        Kind::U64 => w.put_slice(b"U64"),
+        _ => w.put_slice(b"Unit"),
     }
-    if kind == token::kind::BYTES {
-        return wire::put_slice(out, at, b"Bytes");
-    }
-    if kind == token::kind::F64 {
-        return wire::put_slice(out, at, b"F64");
-    }
-    if kind == token::kind::S64 {
-        return wire::put_slice(out, at, b"S64");
-    }
-    if kind == token::kind::STRING {
-        return wire::put_slice(out, at, b"String");
-    }
-    if kind == token::kind::U64 {
-        return wire::put_slice(out, at, b"U64");
-    }
-    wire::put_slice(out, at, b"Unit")
 }
 
 // A custom type, whose import's name is empty where it has none.
-pub fn put_custom(out: &mut [u8], at: usize, import: &[u8], name: &[u8]) -> usize
-    requires { (length import.now ≤ 128) × (length name.now ≤ 128) }
-    ensures { Wrote out.old at (custom_text (optional import.now) name.now) out.new result }
+pub fn put_custom(w: &mut Writer, import: &[u8], name: &[u8])
+    ensures { Puts w.old (custom_text (optional import.now) name.now) w.new }
 {
-    if import.len() == 0 {
-        return identifier::put_pascal(out, at, name);
+    if !import.is_empty() {
+        put_snake(w, import);
+        w.put_byte(b'.');
     }
-    let a = identifier::put_snake(out, at, import);
-    let b = wire::put_byte(out, a, b'.');
-    identifier::put_pascal(out, b, name)
+    put_pascal(w, name);
 }
 
-fn put_rule(out: &mut [u8], at: usize, rule: u8) -> usize
-    ensures { Wrote out.old at (rule_text (rule_of rule)) out.new result }
+// By the number that a table has for the rule.
+fn put_rule(w: &mut Writer, rule: u8)
+    ensures { Puts w.old (rule_text (rule_of rule)) w.new }
 {
-    if rule == 0 {
-        return at;
+    match rule {
+        0 => {}
+        1 => w.put_slice(b"asymmetric "),
+        _ => w.put_slice(b"optional "),
     }
-    if rule == 1 {
-        return wire::put_slice(out, at, b"asymmetric ");
-    }
-    wire::put_slice(out, at, b"optional ")
 }
 
 // A field's comment, rule and name; q holds the name and the comment.
-pub fn put_field_name(out: &mut [u8], at: usize, rule: u8, q: &[u8]) -> usize
+pub fn put_field_name(w: &mut Writer, rule: u8, q: &[u8])
     requires { is_declaration q.now ≡ true }
-    ensures { Wrote out.old at (field_name (comment_of (after_name q.now)) (rule_of rule) (name_of q.now)) out.new result }
+    ensures { Puts w.old (field_name (comment_of (after_name q.now)) (rule_of rule) (name_of q.now)) w.new }
 {
-    let rest = schema::after_name(q);
-    let a = put_counted(out, at, b"    ", rest);
-    let b = wire::put_slice(out, a, b"    ");
-    let c = put_rule(out, b, rule);
-    identifier::put_snake(out, c, schema::name_of(q))
+    put_counted(w, b"    ", schema::after_name(q));
+    w.put_slice(b"    ");
+    put_rule(w, rule);
+    put_snake(w, schema::name_of(q));
 }
 
-pub fn put_field_index(out: &mut [u8], at: usize, index: u64) -> usize
-    ensures { Wrote out.old at (field_index index) out.new result }
+pub fn put_field_index(w: &mut Writer, index: u64)
+    ensures { Puts w.old (field_index index) w.new }
 {
-    let a = wire::put_slice(out, at, b" = ");
-    let b = wire::put_decimal(out, a, index);
-    wire::put_byte(out, b, b'\n')
+    w.put_slice(b" = ");
+    w.put_decimal(index);
+    w.put_byte(b'\n');
 }
 
-fn put_indices(out: &mut [u8], at: usize, p: &[u8]) -> usize
-    requires { length p.now % 8 ≡ 0 }
-    ensures { Wrote out.old at (flat_map index_text (indices_of p.now)) out.new result }
+fn put_indices(w: &mut Writer, p: &[u8])
+    ensures { Puts w.old (flat_map index_text (indices_of p.now)) w.new }
 {
-    let mut a = at;
-    let mut i: usize = 0;
-    while i < p.len() {
-        let b = wire::put_byte(out, a, b' ');
-        a = wire::put_decimal(out, b, wire::u64_at(p, i));
-        i += 8;
+    for index in p.chunks_exact(8) {
+        w.put_byte(b' ');
+        w.put_decimal(wire::u64_at(index, 0));
     }
-    a
 }
 
-pub fn put_deleted(out: &mut [u8], at: usize, fields: bool, p: &[u8]) -> usize
+pub fn put_deleted(w: &mut Writer, fields: bool, p: &[u8])
     requires { is_deleted p.now ≡ true }
-    ensures { Wrote out.old at (deleted_text fields (indices_of p.now)) out.new result }
+    ensures { Puts w.old (deleted_text fields (indices_of p.now)) w.new }
 {
-    let a = put_blank(out, at, fields);
-    let b = wire::put_slice(out, a, b"    deleted");
-    let c = put_indices(out, b, p);
-    wire::put_byte(out, c, b'\n')
+    put_blank(w, fields);
+    w.put_slice(b"    deleted");
+    put_indices(w, p);
+    w.put_byte(b'\n');
 }
 
-fn put_keyword(out: &mut [u8], at: usize, kind: u16) -> usize
-    ensures { Wrote out.old at (variant_text (variant_of kind)) out.new result }
+fn put_keyword(w: &mut Writer, kind: SchemaKind)
+    ensures { Puts w.old (variant_text (variant_of (schema_kinds.number_of kind))) w.new }
 {
-    if kind == schema::kind::STRUCT {
-        return wire::put_slice(out, at, b"struct ");
+    match kind {
+        SchemaKind::Struct => w.put_slice(b"struct "),
+        _ => w.put_slice(b"choice "),
     }
-    wire::put_slice(out, at, b"choice ")
 }
 
 // A declaration up to its fields; q holds the name and the comment.
-pub fn put_head(out: &mut [u8], at: usize, kind: u16, q: &[u8]) -> usize
+pub fn put_head(w: &mut Writer, kind: SchemaKind, q: &[u8])
     requires { is_declaration q.now ≡ true }
-    ensures { Wrote out.old at (head_text (comment_of (after_name q.now)) (variant_of kind) (name_of q.now)) out.new result }
+    ensures { Puts w.old (head_text (comment_of (after_name q.now)) (variant_of (schema_kinds.number_of kind)) (name_of q.now)) w.new }
 {
-    let rest = schema::after_name(q);
-    let a = put_counted(out, at, b"", rest);
-    let b = put_keyword(out, a, kind);
-    let c = identifier::put_pascal(out, b, schema::name_of(q));
-    wire::put_slice(out, c, b" {\n")
+    put_counted(w, b"", schema::after_name(q));
+    put_keyword(w, kind);
+    put_pascal(w, schema::name_of(q));
+    w.put_slice(b" {\n");
 }

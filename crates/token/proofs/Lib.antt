@@ -4,4 +4,6 @@ pub mod Records
 pub mod Paragraphs
 pub mod Walk
 pub mod Encode
+pub mod Once
 pub mod Cases
+pub mod Known

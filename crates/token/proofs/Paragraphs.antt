@@ -8,12 +8,13 @@ use native.Mathlib.Omega.{arith}
 use native.Mathlib.Nat.{zero-add, add-zero}
 use native.Mathlib.Numerals.{sub-one}
 use lib.Dec.{leb}
-use lib.ListN.{length, take, drop, take-append-drop, drop_of_length-le, length-drop, length-append}
-use lib.Seq.{length-take-le, take_at, drop_at, drop-drop}
+use lib.ListN.{length, take, drop, take-append-drop, length-drop, length-append}
+use lib.Seq.{length-take-le, take_at, drop_at}
 use Rattle.wire.specs.Bytes.{Bytes}
 use Rattle.wire.specs.Le.{le_bytes, le_number, le_at, u16_at}
 use Rattle.wire.proofs.Numbers.{AllBytes, le_bytes-length, le_bytes-le_number, le_at-le_bytes}
 use Rattle.token.specs.Payload.{at_least, is_spaced, is_paragraph, paragraph_of, after_paragraph, are_paragraphs}
+use Rattle.token.specs.Split.{SplitsSized}
 use Rattle.token.specs.Payload.{is_comment, paragraphs_in, paragraphs_of, paragraph_bytes, all_paragraphs}
 use Rattle.token.proofs.Laws.{at_least-length, paragraphs_none, paragraphs_step}
 
@@ -170,36 +171,40 @@ comment_found (p ∷ ps) z l e =
     let k : 1 ≤ length (paragraph_bytes (p ∷ ps)) = simp (length-append, le_bytes-length) (omega arith) in
     (rw (le-leb 1 (length (paragraph_bytes (p ∷ ps))) k, f.0), f.1)
 
--- a loop that counts the paragraphs of p stands at `at`, after `count` of them
-pub record Counting (p : Bytes) (count at : ℕ) : Type 0 where
+-- a loop that counts the paragraphs of p has `rest` left, after `count` of them
+pub record Counting (p : Bytes) (count : ℕ) (rest : Bytes) : Type 0 where
   pub few : count ≤ 32
-  pub whole : are_paragraphs (32 - count) (drop at p) ≡ true
-  pub left : count + length (paragraphs_in (32 - count) (drop at p)) ≡ length (paragraphs_of p)
+  pub whole : are_paragraphs (32 - count) rest ≡ true
+  pub left : count + length (paragraphs_in (32 - count) rest) ≡ length (paragraphs_of p)
 
-pub counting : (p : Bytes) → is_comment p ≡ true → Counting p 0 0
+pub counting : (p : Bytes) → is_comment p ≡ true → Counting p 0 p
 unfolding is_comment paragraphs_of
 counting p e = record { few = omega arith; whole = ((and-eq-true_iff (leb 1 (length p)) (are_paragraphs 32 p)).0 e).1; left = zero-add _ }
 
-module _ {p : Bytes} {count at : ℕ} (s : Counting p count at) where
-  pub counted_all : length p ≤ at → count ≡ length (paragraphs_of p)
-  counted_all h = rw (drop_of_length-le p h, in_none (32 - count), add-zero) at s.left
+module _ {p : Bytes} {count : ℕ} {bs : Bytes} (s : Counting p count bs) where
+  pub counted_all : length bs < 2 + u16_at bs 0 → count ≡ length (paragraphs_of p)
+  counted_all h = go bs s h
+    where
+      go : (bs : Bytes) → Counting p count bs → length bs < 2 + u16_at bs 0 → count ≡ length (paragraphs_of p)
+      go [] s h = rw (in_none (32 - count), add-zero) at s.left
+      go (b ∷ bs) s h = absurd (omega (arith, (page (32 - count) (b ∷ bs) (omega arith) s.whole).tail))
 
-  module _ (h : at < length p) where
-    counted_page : Page (32 - count) (drop at p)
-    counted_page = page (32 - count) (drop at p) (rw length-drop (omega (arith, h))) s.whole
+  module _ {part rest : Bytes} (f : SplitsSized bs part rest) where
+    some : 0 < length bs
+    some = omega (arith, f.inside)
 
-    pub counted_inside : at + 2 + u16_at p at ≤ length p
-    unfolding le_at
-    counted_inside = let l = length-drop at p in omega (arith, h, counted_page.tail)
+    first : Page (32 - count) bs
+    first = page (32 - count) bs some s.whole
 
     pub counted_few : count < 32
-    counted_few = omega (arith, s.few, counted_page.some)
+    counted_few = omega (arith, s.few, first.some)
 
-    pub counted_next : Counting p (count + 1) (at + 2 + u16_at p at)
-    unfolding le_at after_paragraph
+    pub counted_next : Counting p (count + 1) rest
     counted_next =
         let n : 32 - (count + 1) ≡ 32 - count - 1 = omega arith in
-        let l : 0 < length (drop at p) = rw length-drop (omega (arith, h)) in
-        let d : after_paragraph (drop at p) ≡ drop (at + 2 + u16_at p at) p = rw (drop-drop 2 at p, drop-drop (u16_at p at) (at + 2) p) in
-        let e = rw (in_step (32 - count) (drop at p) counted_page.some l, d) at s.left in
-        record { few = omega (arith, counted_few); whole = rw (n, ← d) counted_page.rest; left = rw n (omega (arith, e)) }
+        let e = rw (in_step (32 - count) bs first.some some) at s.left in
+        record { few = omega (arith, counted_few); whole = rw (n, f.later) first.rest; left = rw (n, f.later) (omega (arith, e)) }
+
+    pub counted_less : length rest < length bs
+    unfolding after_paragraph
+    counted_less = let d = length-drop (u16_at bs 0) (drop 2 bs) in let e = length-drop 2 bs in rw f.later (omega (arith, f.inside))

@@ -6,18 +6,15 @@ use mathlib.Core.Bool.{Bool, true, false, ◌&&◌, and-eq-true_iff}
 use mathlib.Core.List.{[], ◌∷◌}
 use native.Mathlib.Omega.{arith}
 use native.Mathlib.Numerals.{sub-one}
-use native.Mathlib.Nat.{zero-add, add-zero}
+use native.Mathlib.Nat.{zero-add, add-zero, sub_self}
 use lib.Dec.{leb}
-use lib.ListN.{length, drop, drop_of_length-le, length-drop}
-use lib.Seq.{drop-drop}
+use lib.ListN.{length, drop, length-drop}
 use Rattle.wire.specs.Bytes.{Bytes}
 use Rattle.wire.specs.Pick.{pick}
 use Rattle.token.specs.Token.{Token, end_of}
 use Rattle.token.specs.Table.{size_of, token_of, is_whole, row_after, token_fault, fault_of, Decoded, refused, tokens, add_token, decode_from, decode}
 use Rattle.token.specs.Fit.{Sound}
-use Rattle.token.specs.Checked.{answer_of, checked}
-use Rattle.token.specs.declared.Checked.{Checked}
-use Rattle.token.specs.declared.Checked.TheVariants.{Refused, Fine}
+use Rattle.token.specs.Checked.{Told, answer_of, checked}
 use Rattle.token.proofs.Laws.{at_least-length}
 
 pub whole_is : (bs : Bytes) → is_whole bs ≡ (leb 12 (length bs) && (leb 12 (size_of bs) && leb (size_of bs) (length bs)))
@@ -41,6 +38,10 @@ module _ (at last row : ℕ) where
   unfolding decode_from
   decode_end zero = refl
   decode_end (suc n) = refl
+
+  decode_none : (n : ℕ) (bs : Bytes) → length bs ≡ 0 → decode_from n at last row bs ≡ tokens []
+  decode_none n [] h = decode_end n
+  decode_none n (b ∷ bs) h = absurd (omega arith)
 
   pub decode_full : (bs : Bytes) → 0 < length bs → decode_from 0 at last row bs ≡ refused 6 at
   unfolding decode_from
@@ -99,9 +100,9 @@ good last row bs e =
     record { fits = fits bs (not-false _ w.0); sound = sound last row (token_of bs) w.1 }
 
 -- an answer of which `count` tokens are known, the last of them ending at `last`
-abbrev pub onto : ℕ → ℕ → Decoded → Checked
-onto count last (refused number at) = Refused number at
-onto count last (tokens ts) = Fine (count + length ts) (end_of last ts)
+abbrev pub onto : ℕ → ℕ → Decoded → Told
+onto count last (refused number at) = Told.refused number at
+onto count last (tokens ts) = Told.fine (count + length ts) (end_of last ts)
 
 onto_none : (d : Decoded) → onto 0 0 d ≡ answer_of d
 onto_none (refused number at) = refl
@@ -111,56 +112,57 @@ onto_add : (count last : ℕ) (t : Token) (d : Decoded) → onto count last (add
 onto_add count last t (refused number at) = refl
 onto_add count last t (tokens ts) = let e : count + suc (length ts) ≡ count + 1 + length ts = omega arith in rw e
 
--- the check stands at `at`, after `count` tokens, and r is what it answers
-pub record Checking (t : Bytes) (at count last row : ℕ) (r : Checked) : Type 0 where
-  pub inside : at ≤ length t
+-- what is left of a table of `size` bytes, after `count` tokens, is being checked, and r is what the check answers
+pub record Checking (size : ℕ) (rest : Bytes) (count last row : ℕ) (r : Told) : Type 0 where
+  pub inside : length rest ≤ size
   pub few : count ≤ 4096
   pub shallow : row ≤ 64
-  pub left : onto count last (decode_from (4096 - count) at last row (drop at t)) ≡ r
+  pub left : onto count last (decode_from (4096 - count) (size - length rest) last row rest) ≡ r
 
-pub checked_large : (t : Bytes) → 65536 < length t → Refused 1 0 ≡ checked t
+pub checked_large : (t : Bytes) → 65536 < length t → Told.refused 1 0 ≡ checked t
 unfolding checked decode pick
 checked_large t h = rw (lt-ltb 65536 (length t) h)
 
-pub checking : (t : Bytes) → length t ≤ 65536 → Checking t 0 0 0 0 (checked t)
+pub checking : (t : Bytes) → length t ≤ 65536 → Checking (length t) t 0 0 0 (checked t)
 unfolding checked decode pick
 checking t h = record {
   inside = omega arith;
   few = omega arith;
   shallow = omega arith;
-  left = rw (le-ltb 65536 (length t) h) (onto_none (decode_from 4096 0 0 0 t));
+  left = rw (le-ltb 65536 (length t) h, sub_self) (onto_none (decode_from 4096 0 0 0 t));
 }
 
-module _ {t : Bytes} {at count last row : ℕ} {r : Checked} (s : Checking t at count last row r) where
-  pub checked_end : length t ≤ at → Fine count last ≡ r
-  checked_end h = rw (drop_of_length-le t h, decode_end at last row (4096 - count), add-zero) at s.left
+module _ {size : ℕ} {rest : Bytes} {count last row : ℕ} {r : Told} (s : Checking size rest count last row r) where
+  pub checked_end : length rest ≡ 0 → Told.fine count last ≡ r
+  checked_end h = rw (decode_none (size - length rest) last row (4096 - count) rest h, add-zero) at s.left
 
-  module _ (h : at < length t) where
-    rest_some : 0 < length (drop at t)
-    rest_some = rw length-drop (omega (arith, h))
+  module _ (h : 0 < length rest) where
+    pub checked_full : count ≡ 4096 → Told.refused 6 (size - length rest) ≡ r
+    checked_full e = rw (e, decode_full (size - length rest) last row rest h) at s.left
 
-    pub checked_full : count ≡ 4096 → Refused 6 at ≡ r
-    checked_full e = rw (e, decode_full at last row (drop at t) rest_some) at s.left
-
-    module _ (m : count ≡ 4096 → ⊥) {f : ℕ} (e : f ≡ fault_of last row (drop at t)) where
+    module _ (m : count ≡ 4096 → ⊥) {f : ℕ} (e : f ≡ fault_of last row rest) where
       left_some : 4096 - count ≡ 0 → ⊥
       left_some z = m (omega (arith, s.few))
 
-      pub checked_bad : (f ≡ 0 → ⊥) → Refused f at ≡ r
-      checked_bad k = rw (decode_bad at last row (4096 - count) (drop at t) left_some rest_some f e k) at s.left
+      pub checked_bad : (f ≡ 0 → ⊥) → Told.refused f (size - length rest) ≡ r
+      checked_bad k = rw (decode_bad (size - length rest) last row (4096 - count) rest left_some h f e k) at s.left
 
-      pub checked_good : f ≡ 0 → Good last row (drop at t)
-      checked_good z = good last row (drop at t) (sym e ∙ z)
+      pub checked_less : f ≡ 0 → length (drop (size_of rest) rest) < length rest
+      checked_less z =
+          let g = (good last row rest (sym e ∙ z)).fits in
+          let l = length-drop (size_of rest) rest in
+          omega (arith, g.head, g.tail)
 
-      pub checked_next : f ≡ 0 → Checking t (at + size_of (drop at t)) (count + 1) (token_of (drop at t)).end (row_after row (token_of (drop at t)).kind) r
+      pub checked_next : f ≡ 0 → Checking size (drop (size_of rest) rest) (count + 1) (token_of rest).end (row_after row (token_of rest).kind) r
       checked_next z =
-          let g = checked_good z in
-          let l : size_of (drop at t) ≤ length t - at = rw (← length-drop at t) g.fits.tail in
+          let g = good last row rest (sym e ∙ z) in
+          let l = length-drop (size_of rest) rest in
+          let k = g.fits.tail in
           let n : 4096 - (count + 1) ≡ 4096 - count - 1 = omega arith in
+          let p : size - length (drop (size_of rest) rest) ≡ size - length rest + size_of rest = omega (arith, s.inside) in
           record {
-            inside = omega arith;
+            inside = omega (arith, s.inside);
             few = omega (arith, s.few, m);
             shallow = g.sound.shallow;
-            left = rw n (rw (decode_next at last row (4096 - count) (drop at t) left_some rest_some (sym e ∙ z), drop-drop (size_of (drop at t)) at t, onto_add)
-                at s.left);
+            left = rw (n, p) (rw (decode_next (size - length rest) last row (4096 - count) rest left_some h (sym e ∙ z), onto_add) at s.left);
           }

@@ -18,9 +18,8 @@ use Rattle.token.specs.Token.{Token, end_of}
 use Rattle.token.specs.Table.{size_of, token_of, row_after, fault_of, Decoded, refused, tokens, add_token, decode_from, decode}
 use Rattle.token.specs.Fit.{Fit}
 use Rattle.token.specs.Fit.Fit.{none, more}
-use Rattle.token.specs.Checked.{answer_of, checked}
+use Rattle.token.specs.Checked.{Told, answer_of, checked}
 use Rattle.token.specs.Places.{tok_at, next_at, tokens_in, tokens_from, Wf}
-use Rattle.token.specs.declared.Checked.TheVariants.{Refused, Fine}
 use Rattle.token.proofs.Records.{Fits, Good, good, decode_end, decode_full, decode_bad, decode_next}
 
 -- a number in a record, read from the table
@@ -132,22 +131,22 @@ decode_judged t ts e =
       wf = record { small = s.0; inside = omega arith; left = 4096; few = omega arith; last = 0; row = 0; shallow = omega arith; good = rw (← k) s.1 };
     }
 
-pub fine : (t : Bytes) (n e : ℕ) → checked t ≡ Fine n e → Judged t n e
+pub fine : (t : Bytes) (n e : ℕ) → checked t ≡ Told.fine n e → Judged t n e
 unfolding checked
 fine t n e h = go (decode t) refl h
   where
-    go : (d : Decoded) → decode t ≡ d → answer_of d ≡ Fine n e → Judged t n e
+    go : (d : Decoded) → decode t ≡ d → answer_of d ≡ Told.fine n e → Judged t n e
     go (refused m at) q h = let z : ◌≡◌ {A = ℕ} 0 1 = cc in absurd (omega arith)
     go (tokens ts) q h =
         let n' : length ts ≡ n = cc in
         let e' : end_of 0 ts ≡ e = cc in
         rw (← n', ← e') (decode_judged t ts q)
 
-pub refusal : (t : Bytes) (n at : ℕ) → checked t ≡ Refused n at → decode t ≡ refused n at
+pub refusal : (t : Bytes) (n at : ℕ) → checked t ≡ Told.refused n at → decode t ≡ refused n at
 unfolding checked
 refusal t n at h = go (decode t) refl h
   where
-    go : (d : Decoded) → decode t ≡ d → answer_of d ≡ Refused n at → decode t ≡ refused n at
+    go : (d : Decoded) → decode t ≡ d → answer_of d ≡ Told.refused n at → decode t ≡ refused n at
     go (refused m b) q h = cc
     go (tokens ts) q h = let z : ◌≡◌ {A = ℕ} 0 1 = cc in absurd (omega arith)
 

@@ -5,4 +5,6 @@ pub mod Payload
 pub mod Table
 pub mod Fit
 pub mod Checked
+pub mod Split
 pub mod Places
+pub mod Kinds

@@ -1,251 +1,276 @@
 // Token tables: the check of document 01 (R1 to R7), and the walk over a table that passed it.
 #![tactic(auto)]
 
-ghost use Rattle.std.specs.Prelude.{◌≡◌, ◌≤◌, ◌<◌, true, length};
-ghost use Rattle.wire.specs.Le.{le_number};
-ghost use Rattle.identifier.specs.Byte.{class_of};
-ghost use Rattle.identifier.specs.Table.{table};
+ghost use Rattle.std.specs.Prelude.{◌≡◌, ◌+◌, ◌≤◌, ◌<◌, true, false, length, MatchOption};
+ghost use Rattle.wire.specs.Le.{le_number, u16_at};
 ghost use Rattle.token.specs.Kind.{k_integer};
-ghost use Rattle.token.specs.Token.{token};
-ghost use Rattle.token.specs.Payload.{is_identifier, is_path, is_paragraph, is_comment, is_payload, paragraphs_of};
-ghost use Rattle.token.specs.Table.{is_whole, row_after, token_fault, fault_of};
-ghost use Rattle.token.specs.Checked.{checked};
+ghost use Rattle.token.specs.Kinds.{number_of};
+ghost use Rattle.token.specs.Payload.{is_name_start, is_name_byte, is_path_byte, is_identifier, is_path, is_paragraph, is_comment, is_payload, paragraphs_of};
+ghost use Rattle.token.specs.Table.{token_of, is_whole, row_after, token_fault, fault_of};
+ghost use Rattle.token.specs.Split.{held, after_record, SplitsRecord, SplitsSized};
+ghost use Rattle.token.specs.Checked.{Faults, Passed, numbered, checked};
 ghost use Rattle.token.specs.Places.{tok_at, next_at, Wf};
 
-use identifier::tables::class_in;
-
 pub mod kind;
+
+use identifier::class_of;
+use kind::Kind;
+use wire::{Refusal, Refused};
 
 // of a name or a path
 const LONGEST: usize = 128;
 
-fn is_identifier(class: &[u8; 256], p: &[u8]) -> bool
-    requires { class.now ≡ table class_of }
-    ensures { result ≡ is_identifier p.now }
+#[tactic(auto, using(identifier::proofs::Table::class_start))]
+fn is_name_start(b: u8) -> bool
+    ensures { result ≡ is_name_start b }
 {
-    if p.len() < 1 {
-        return false;
-    }
-    if LONGEST < p.len() {
-        return false;
-    }
-    if class_in(class, p[0]) < 6 {
-        return false;
-    }
-    let mut i = 0;
-    while i < p.len() {
-        if class_in(class, p[i]) < 4 {
-            return false;
-        }
-        i += 1;
-    }
-    true
+    6 <= class_of(b)
 }
 
-pub fn is_path(class: &[u8; 256], p: &[u8]) -> bool
-    requires { class.now ≡ table class_of }
-    ensures { result ≡ is_path p.now }
+#[tactic(auto, using(identifier::proofs::Table::class_name))]
+fn is_name_byte(b: u8) -> bool
+    ensures { result ≡ is_name_byte b }
 {
-    if LONGEST < p.len() {
+    4 <= class_of(b)
+}
+
+#[tactic(auto, using(identifier::proofs::Table::class_path))]
+fn is_path_byte(b: u8) -> bool
+    ensures { result ≡ is_path_byte b }
+{
+    2 <= class_of(b)
+}
+
+#[tactic(auto, unfolding(crate::specs::Payload::is_identifier))]
+fn is_identifier(p: &[u8]) -> bool
+    ensures { result ≡ is_identifier p.now }
+{
+    if p.is_empty() || LONGEST < p.len() || !is_name_start(p[0]) {
         return false;
     }
-    let mut i = 0;
-    while i < p.len() {
-        if class_in(class, p[i]) < 2 {
-            return false;
-        }
-        i += 1;
-    }
-    true
+    p.iter().all(|b| is_name_byte(*b))
+}
+
+#[tactic(auto, unfolding(crate::specs::Payload::is_path))]
+pub fn is_path(p: &[u8]) -> bool
+    ensures { result ≡ is_path p.now }
+{
+    p.len() <= LONGEST && p.iter().all(|b| is_path_byte(*b))
 }
 
 // No early return in the loop: the compiler then tests many bytes at once.
-fn is_paragraph(class: &[u8; 256], p: &[u8]) -> bool
-    requires { class.now ≡ table class_of }
+#[tactic(auto, unfolding(crate::specs::Payload::is_paragraph))]
+fn is_paragraph(p: &[u8]) -> bool
     ensures { result ≡ is_paragraph p.now }
 {
-    if p.len() < 1 {
-        return false;
-    }
-    if 1024 < p.len() {
+    if p.is_empty() || 1024 < p.len() {
         return false;
     }
     let mut gap = true;
     let mut good = true;
-    let mut i = 0;
-    while i < p.len() {
-        let k = class_in(class, p[i]);
-        let space = k == 2;
-        good = good & ((0 < k) & !(gap & space));
+    for b in p {
+        let class = class_of(*b);
+        let space = class == 2;
+        good &= (0 < class) & !(gap & space);
         gap = space;
-        i += 1;
     }
     good & !gap
 }
 
-pub fn is_comment(class: &[u8; 256], p: &[u8]) -> bool
-    requires { class.now ≡ table class_of }
+/// The bytes that their number, a u16, comes before, and what follows them.
+pub fn split_sized(p: &[u8]) -> Option<(&[u8], &[u8])>
+    ensures { MatchOption result (length p.now < 2 + u16_at p.now 0) (λ s. SplitsSized p.now s.0.now s.1.now) }
+{
+    if p.len() < 2 {
+        return None;
+    }
+    p[2..].split_at_checked(wire::u16_at(p, 0) as usize)
+}
+
+#[tactic(auto, unfolding(crate::specs::Payload::is_comment))]
+pub fn is_comment(p: &[u8]) -> bool
     ensures { result ≡ is_comment p.now }
 {
-    if p.len() < 1 {
-        return false;
+    let mut rest = p;
+    for _ in 0..32usize {
+        let Some((paragraph, after)) = split_sized(rest) else {
+            return false;
+        };
+        if !is_paragraph(paragraph) {
+            return false;
+        }
+        if after.is_empty() {
+            return true;
+        }
+        rest = after;
     }
-    let mut left: usize = 32;
-    let mut at = 0;
-    while at < p.len() {
-        if left == 0 {
-            return false;
-        }
-        if p.len() - at < 2 {
-            return false;
-        }
-        let size = wire::u16_at(p, at) as usize;
-        if p.len() - at < 2 + size {
-            return false;
-        }
-        if !is_paragraph(class, &p[at + 2..at + 2 + size]) {
-            return false;
-        }
-        left -= 1;
-        at = at + 2 + size;
-    }
-    true
+    false
 }
 
-fn is_payload(class: &[u8; 256], kind: u16, p: &[u8]) -> bool
-    requires { class.now ≡ table class_of }
-    ensures { result ≡ is_payload kind p.now }
+/// How many paragraphs a Comment's payload holds.
+pub fn paragraph_count(p: &[u8]) -> u16
+    requires { is_comment p.now ≡ true }
+    ensures { result ≡ length (paragraphs_of p.now) }
 {
-    if kind == kind::IDENTIFIER {
-        return is_identifier(class, p);
+    let mut count: u16 = 0;
+    let mut rest = p;
+    while let Some((_, after)) = split_sized(rest) {
+        count += 1;
+        rest = after;
     }
-    if kind == kind::PATH {
-        return is_path(class, p);
-    }
-    if kind == kind::INTEGER {
-        return p.len() == 8;
-    }
-    if kind == kind::COMMENT {
-        return is_comment(class, p);
-    }
-    p.len() == 0
+    count
 }
 
-pub fn is_whole(bs: &[u8]) -> bool
-    ensures { result ≡ is_whole bs.now }
+#[tactic(auto, unfolding(crate::specs::Payload::is_payload, crate::specs::Payload::is_integer, wire::specs::Pick::pick))]
+fn is_payload(kind: Kind, p: &[u8]) -> bool
+    ensures { result ≡ is_payload (number_of kind) p.now }
+{
+    match kind {
+        Kind::Identifier => is_identifier(p),
+        Kind::Path => is_path(p),
+        Kind::Integer => p.len() == 8,
+        Kind::Comment => is_comment(p),
+        _ => p.is_empty(),
+    }
+}
+
+/// A record of a table: its kind's number, its source range and what it holds.
+#[derive(Clone, Copy, Drop)]
+pub struct Record<'a> {
+    pub kind: u16,
+    pub start: u32,
+    pub end: u32,
+    pub payload: &'a [u8],
+}
+
+/// The record that these bytes begin with, if it is whole, and what follows it.
+#[tactic(auto, using(crate::proofs::Records::whole_is))]
+pub fn split_record(bs: &[u8]) -> Option<(Record<'_>, &[u8])>
+    ensures { MatchOption result (is_whole bs.now ≡ false) (λ s. SplitsRecord bs.now s.0 s.1.now) }
 {
     if bs.len() < 12 {
-        return false;
+        return None;
     }
     let size = wire::u16_at(bs, 0) as usize;
-    if size < 12 {
-        return false;
+    if size < 12 || bs.len() < size {
+        return None;
     }
-    size <= bs.len()
+    let record = Record {
+        kind: wire::u16_at(bs, 2),
+        start: wire::u32_at(bs, 4),
+        end: wire::u32_at(bs, 8),
+        payload: &bs[12..size],
+    };
+    Some((record, &bs[size..]))
 }
 
-fn row_after(row: usize, kind: u16) -> usize
+#[tactic(auto, unfolding(crate::specs::Table::row_after, wire::specs::Pick::pick))]
+fn row_after(row: usize, kind: Kind) -> usize
     requires { row ≤ 64 }
-    ensures { result ≡ row_after row kind }
+    ensures { result ≡ row_after row (number_of kind) }
 {
-    if kind == kind::LEFT_SQUARE {
-        return row + 1;
+    match kind {
+        Kind::LeftSquare => row + 1,
+        _ => 0,
     }
-    0
 }
 
-// The number that a token is refused with; 0 for none.
-fn token_fault(
-    class: &[u8; 256],
-    last: u32,
-    row: usize,
-    kind: u16,
-    start: u32,
-    end: u32,
-    p: &[u8],
-) -> u16
-    requires { (class.now ≡ table class_of) × (row ≤ 64) }
-    ensures { result ≡ token_fault last row (token kind start end p.now) }
-{
-    if !((1 <= kind) & (kind <= 25)) {
-        return 3;
-    }
-    if !is_payload(class, kind, p) {
-        return 4;
-    }
-    if !((last <= start) & (start <= end)) {
-        return 5;
-    }
-    if 64 < row_after(row, kind) {
-        return 7;
-    }
-    0
-}
-
-// The same of the record that these bytes begin with.
-fn fault(class: &[u8; 256], last: u32, row: usize, bs: &[u8]) -> u16
-    requires { (class.now ≡ table class_of) × (row ≤ 64) }
-    ensures { result ≡ fault_of last row bs.now }
-{
-    if !is_whole(bs) {
-        return 2;
-    }
-    let size = wire::u16_at(bs, 0) as usize;
-    let kind = wire::u16_at(bs, 2);
-    let start = wire::u32_at(bs, 4);
-    let end = wire::u32_at(bs, 8);
-    token_fault(class, last, row, kind, start, end, &bs[12..size])
-}
-
-// The refusal's number and the faulty record's offset, or how many tokens there are and where the last ends.
+// What the tokens so far leave: where the last of them ends, and how many LeftSquares in a row.
 #[derive(Clone, Copy, Drop)]
-pub enum Checked {
-    Refused(u16, usize),
-    Fine(usize, u32),
+struct Before {
+    end: u32,
+    row: usize,
+    ghost shallow: { row ≤ 64 },
+}
+
+impl Before {
+    // With one more token, unless it is refused.
+    #[tactic(auto, unfolding(crate::specs::Table::token_fault, wire::specs::Pick::pick))]
+    fn add(self, token: Record) -> Result<Before, Refusal>
+        ensures { Faults (token_fault self.end self.row (held token.entry)) result (λ b. Passed self.row (held token.entry) b.end b.row) }
+    {
+        let Ok(kind) = Kind::try_from(token.kind) else {
+            return Err(Refusal::UnknownKind);
+        };
+        if !is_payload(kind, token.payload) {
+            return Err(Refusal::WrongPayload);
+        }
+        if token.start < self.end || token.end < token.start {
+            return Err(Refusal::WrongRange);
+        }
+        let row = row_after(self.row, kind);
+        if 64 < row {
+            return Err(Refusal::TooManyBrackets);
+        }
+        Ok(Before {
+            end: token.end,
+            row,
+        })
+    }
+
+    // With the token that these bytes begin with, and the bytes that follow it.
+    #[tactic(auto, unfolding(crate::specs::Table::fault_of, wire::specs::Pick::pick))]
+    fn add_first(self, bs: &[u8]) -> Result<(Before, &[u8]), Refusal>
+        ensures { Faults (fault_of self.end self.row bs.now) result
+            (λ s. Passed self.row (token_of bs.now) s.0.end s.0.row × (s.1.now ≡ after_record bs.now)) }
+    {
+        let Some((token, rest)) = split_record(bs) else {
+            return Err(Refusal::RecordCutShort);
+        };
+        Ok((self.add(token)?, rest))
+    }
+}
+
+/// How many tokens a table holds, and where the last of them ends.
+#[derive(Clone, Copy, Drop, PartialEq, Eq, Debug)]
+pub struct Checked {
+    pub count: usize,
+    pub end: u32,
 }
 
 // Record by record, in a table that is not too large.
-fn check_records(class: &[u8; 256], t: &[u8]) -> Checked
-    requires { (class.now ≡ table class_of) × (length t.now ≤ 65536) }
-    ensures { result ≡ checked t.now }
+fn check_records(t: &[u8]) -> Result<Checked, Refused>
+    requires { length t.now ≤ 65536 }
+    ensures { numbered result ≡ checked t.now }
 {
-    let mut at: usize = 0;
     let mut count: usize = 0;
-    let mut last: u32 = 0;
-    let mut row: usize = 0;
-    while at < t.len() {
+    let mut before = Before { end: 0, row: 0 };
+    let mut rest = t;
+    while !rest.is_empty() {
+        let offset = t.len() - rest.len();
         if count == 4096 {
-            return Checked::Refused(6, at);
+            return Err(Refused {
+                refusal: Refusal::TooManyTokens,
+                offset,
+            });
         }
-        let bs = &t[at..];
-        let number = fault(class, last, row, bs);
-        if number != 0 {
-            return Checked::Refused(number, at);
-        }
-        last = wire::u32_at(bs, 8);
-        row = row_after(row, wire::u16_at(bs, 2));
+        (before, rest) = before
+            .add_first(rest)
+            .map_err(|refusal| Refused { refusal, offset })?;
         count += 1;
-        at += wire::u16_at(bs, 0) as usize;
     }
-    Checked::Fine(count, last)
+    Ok(Checked {
+        count,
+        end: before.end,
+    })
 }
 
-pub fn check(t: &[u8]) -> Checked
-    ensures { result ≡ checked t.now }
+#[tactic(auto, using(crate::proofs::Records::checked_large))]
+pub fn check(t: &[u8]) -> Result<Checked, Refused>
+    ensures { numbered result ≡ checked t.now }
 {
     if 65536 < t.len() {
-        return Checked::Refused(1, 0);
+        return Err(Refusal::TableTooLong.into());
     }
-    let class = identifier::tables::class_table();
-    check_records(&class, t)
+    check_records(t)
 }
 
 // The walk over a table that passed the check: what stands at a place, and the place after it.
-pub fn kind_at(t: &[u8], at: usize) -> u16
+pub fn kind_at(t: &[u8], at: usize) -> Kind
     requires { (Wf t.now at) × (at < length t.now) }
-    ensures { result ≡ (tok_at t.now at).kind }
+    ensures { number_of result ≡ (tok_at t.now at).kind }
 {
-    wire::u16_at(t, at + 2)
+    Kind::try_from(wire::u16_at(t, at + 2)).unwrap()
 }
 
 pub fn start_at(t: &[u8], at: usize) -> u32
@@ -282,18 +307,4 @@ pub fn next_at(t: &[u8], at: usize) -> usize
     ensures { result ≡ next_at t.now at }
 {
     at + wire::u16_at(t, at) as usize
-}
-
-// How many paragraphs a Comment's payload holds.
-pub fn paragraph_count(p: &[u8]) -> u16
-    requires { is_comment p.now ≡ true }
-    ensures { result ≡ length (paragraphs_of p.now) }
-{
-    let mut count: u16 = 0;
-    let mut at = 0;
-    while at < p.len() {
-        count += 1;
-        at = at + 2 + wire::u16_at(p, at) as usize;
-    }
-    count
 }

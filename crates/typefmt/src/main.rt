@@ -3,9 +3,9 @@
 
 // One byte more than a table may have is read: that tells a table that is too long, and of an endless input no more is read.
 fn main() {
-    let mut table = [0u8; 65537];
-    let mut schema = [0u8; 65536];
-    let mut text = [0u8; 147456];
+    let mut table = [0; 65537];
+    let mut schema = [0; 65536];
+    let mut text = [0; 147456];
     let n = io::read_full(0, &mut table);
     stream::answer(&table[..n], &mut schema, &mut text);
 }

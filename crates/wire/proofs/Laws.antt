@@ -96,34 +96,28 @@ pub over_fits : (bs o : Bytes) (at : ℕ) → at + length bs ≤ length o → le
     → over o at bs ≡ take at o ++ bs ++ drop (at + length bs) o
 over_fits bs o at h k = over_sets bs o at h k ∙ sets-eq bs o at h
 
--- The three ways of a writer that tests room once: all lies past the end, all fits, or what fits is written. `put_mid at k o x` is o after a part of k
--- bytes from `at` on was lent and came back as x.
-module _ (o : Bytes) (at : ℕ) (bs : Bytes) (small : length o ≤ 18446744073709551615) (here : at ≤ 18446744073709551615) where
-  pub wrote_past : {r : ℕ} → length o ≤ at → r ≡ min (at + length bs) 18446744073709551615 → Wrote o at bs o r
-  wrote_past h p = record { bytes = sym (over_past bs o at h small); place = p ∙ sym (adv_is bs at here) }
+-- The three ways of laying bytes where room is tested once: all lies past the end (`over_past`), all fits, or what fits is laid. `put_mid at k o x` is
+-- o after a part of k bytes from `at` on was lent and came back as x.
+pub over_whole : (o : Bytes) (at : ℕ) (bs : Bytes) → at + length bs ≤ length o → length o ≤ 18446744073709551615
+    → put_mid at (at + length bs - at) o bs ≡ over o at bs
+over_whole o at bs h small =
+    let l : at + length bs - at ≡ length bs = omega arith in
+    ap (λ (k : ℕ). put_mid at k o bs) l ∙ rw (drop-drop, ← append_assoc) (sym (over_fits bs o at h small))
 
-  pub wrote_whole : (end : ℕ) {x : Bytes} → end ≤ length o → end ≡ at + length bs → x ≡ bs → Wrote o at bs (put_mid at (end - at) o x) end
-  wrote_whole end {x} h q p =
-      let l : end - at ≡ length bs = omega arith in
-      let lent : put_mid at (end - at) o bs ≡ over o at bs =
-      ap (λ (k : ℕ). put_mid at k o bs) l ∙ rw (drop-drop, ← append_assoc) (sym (over_fits bs o at (omega arith) small)) in
-      record { bytes = rw p lent; place = omega (arith, adv_is bs at here) }
-
-  pub wrote_clipped : {r : ℕ} {x : Bytes} → at ≤ length o → length o - at ≤ length bs → x ≡ take (length o - at) bs
-      → r ≡ min (at + length bs) 18446744073709551615
-      → Wrote o at bs (put_mid at (length o - at) o x) r
-  wrote_clipped h f p q =
-      let room = length o - at in
-      let front = take room bs in
-      let l : room ≡ length front = omega (arith, length-take room bs) in
-      let past : over (over o at front) (adv at front) (drop room bs) ≡ over o at front =
-      over_past (drop room bs) (over o at front) (adv at front) (omega (arith, over-length front o at, adv_is front at here))
-      (omega (arith, over-length front o at)) in
-      let all : over (over o at front) (adv at front) (drop room bs) ≡ over o at bs =
-      over-append front (drop room bs) o at ∙ ap (over o at) (take-append-drop room bs) in
-      let lent : put_mid at room o front ≡ over o at front =
-      ap (λ (k : ℕ). put_mid at k o front) l ∙ rw (drop-drop, ← append_assoc) (sym (over_fits front o at (omega arith) small)) in
-      record { bytes = rw p (lent ∙ sym past ∙ all); place = q ∙ sym (adv_is bs at here) }
+pub over_clipped : (o : Bytes) (at : ℕ) (bs : Bytes) → at ≤ length o → length o - at ≤ length bs → length o ≤ 18446744073709551615
+    → put_mid at (length o - at) o (take (length o - at) bs) ≡ over o at bs
+over_clipped o at bs h f small =
+    let room = length o - at in
+    let front = take room bs in
+    let l : room ≡ length front = omega (arith, length-take room bs) in
+    let past : over (over o at front) (adv at front) (drop room bs) ≡ over o at front =
+    over_past (drop room bs) (over o at front) (adv at front) (omega (arith, over-length front o at, adv_is front at (omega arith)))
+    (omega (arith, over-length front o at)) in
+    let all : over (over o at front) (adv at front) (drop room bs) ≡ over o at bs =
+    over-append front (drop room bs) o at ∙ ap (over o at) (take-append-drop room bs) in
+    let lent : put_mid at room o front ≡ over o at front =
+    ap (λ (k : ℕ). put_mid at k o front) l ∙ rw (drop-drop, ← append_assoc) (sym (over_fits front o at (omega arith) small)) in
+    lent ∙ sym past ∙ all
 
 -- What a public function learns that first writes into the empty part of its buffer o, which leaves e there: nothing changed, and whether the
 -- bytes fit. Its tests are of the buffer as it is then, e ++ o.

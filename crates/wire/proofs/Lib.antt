@@ -2,3 +2,5 @@
 pub mod Laws
 pub mod Numbers
 pub mod Choice
+pub mod Puts
+pub mod Refusals

@@ -4,7 +4,7 @@ use mathlib.Core.Path.{◌≡◌, refl, ap, ◌∙◌}
 use mathlib.Core.Bool.{Bool, true, false}
 use mathlib.Core.List.{[], ◌∷◌, ◌++◌, append-nil}
 use Prim.Native.Nat.{ℕ, zero, suc, ◌+◌, ◌*◌, ◌-◌, ◌/◌, ◌%◌, ◌^◌, ◌≤◌, ◌<◌}
-use native.Mathlib.Nat.{pow-succ', pow-zero, one-mul, zero-add, mul_assoc}
+use native.Mathlib.Nat.{pow-succ', pow-zero, one-mul, zero-add, mul_assoc, mul_comm}
 use native.Mathlib.Numerals.{sub-one, add-one}
 use native.Mathlib.Omega.{arith}
 use lib.Dec.{ltb}
@@ -14,6 +14,8 @@ use borrow.Author.Tests.{lt-ltb, le-ltb, ltb-false}
 use Rattle.wire.specs.Bytes.{Bytes}
 use Rattle.wire.specs.Le.{le_bytes, le_number, le_at}
 use Rattle.wire.specs.Decimal.{digits, decimal}
+use Rattle.std.specs.Int.{byte_at, bytes_low_first}
+use Rattle.std.proofs.Math.Nat.{div-div-eq-div-mul}
 
 pub le_bytes-length : (k n : ℕ) → length (le_bytes k n) ≡ k
 unfolding le_bytes
@@ -29,6 +31,23 @@ pub le_bytes_step : (j n : ℕ) → 0 < j → le_bytes j n ≡ n % 256 ∷ le_by
 unfolding le_bytes
 le_bytes_step zero n h = absurd (omega arith)
 le_bytes_step (suc j) n h = rw sub-one
+
+-- the library's bytes of a number are these
+byte_at_is : (i n : ℕ) → byte_at i n ≡ n / 256 ^ i % 256
+byte_at_is zero n = rw pow-zero (omega arith)
+byte_at_is (suc i) n = refl
+
+low_first : (k i n : ℕ) → bytes_low_first i k n ≡ le_bytes k (n / 256 ^ i)
+unfolding le_bytes
+low_first zero i n = refl
+low_first (suc k) i n =
+    let e : n / 256 ^ i / 256 ≡ n / 256 ^ suc i = rw (div-div-eq-div-mul n (256 ^ i) 256, pow-succ', mul_comm) refl in
+    rw (byte_at_is i n, low_first k (suc i) n, e)
+
+pub to_le : (k n : ℕ) → bytes_low_first 0 k n ≡ le_bytes k n
+to_le k n =
+    let e : n / 256 ^ 0 ≡ n = omega arith in
+    rw (low_first k 0 n, e)
 
 -- a number that fits into k bytes comes back from them
 pub le_number-le_bytes : (k n : ℕ) → n < 256 ^ k → le_number (le_bytes k n) ≡ n

@@ -5,3 +5,5 @@ pub mod Le
 pub mod Decimal
 pub mod Put
 pub mod Record
+pub mod Puts
+pub mod Refusal

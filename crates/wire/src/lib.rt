@@ -1,174 +1,161 @@
-// The bytes underneath: writers of bytes and numbers into a lent buffer, and readers of little-endian numbers.
+// The bytes underneath: a writer over a lent buffer, little-endian numbers, and the refusals that every crate above answers with.
 #![tactic(auto)]
 
-ghost use Rattle.std.specs.Prelude.{◌≡◌, [], ◌∷◌, ◌+◌, ◌≤◌, ◌<◌, min, length};
-ghost use Rattle.wire.specs.Put.{Wrote};
+ghost use Rattle.std.specs.Prelude.{◌≡◌, [], ◌∷◌, ◌+◌, ◌≤◌, ◌<◌, length};
+ghost use Rattle.wire.specs.Put.{over};
+ghost use Rattle.wire.specs.Puts.{Puts};
+ghost use Rattle.wire.specs.Refusal.{number_of, refused_by};
 ghost use Rattle.wire.specs.Le.{le_bytes, u16_at, u32_at, u64_at};
 ghost use Rattle.wire.specs.Decimal.{decimal};
 ghost use Rattle.wire.specs.Record.{head_bytes};
 
-const LARGEST: usize = 18446744073709551615;
-
-pub fn put_byte(out: &mut [u8], at: usize, b: u8) -> usize
-    ensures { Wrote out.old at (b ∷ []) out.new result }
-{
-    if at < out.len() {
-        out[at] = b;
-        return at + 1;
-    }
-    advance(at, 1)
+/// Why a call is refused: document 01's R1 to R10.
+#[derive(Clone, Copy, Drop, PartialEq, Eq, Debug)]
+pub enum Refusal {
+    TableTooLong = 1,
+    RecordCutShort = 2,
+    UnknownKind = 3,
+    WrongPayload = 4,
+    WrongRange = 5,
+    TooManyTokens = 6,
+    TooManyBrackets = 7,
+    NoRoom = 8,
+    NotASchema = 9,
+    NotAName = 10,
 }
 
-fn advance(at: usize, n: usize) -> usize
-    ensures { result ≡ min (at + n) 18446744073709551615 }
-{
-    if n <= LARGEST - at {
-        return at + n;
+impl Refusal {
+    pub fn number(self) -> u16
+        ensures { result ≡ number_of self }
+    {
+        self as u16
     }
-    LARGEST
 }
 
-fn copy(to: &mut [u8], s: &[u8])
-    requires { length to.old ≡ length s.now }
-    ensures { to.new ≡ s.now }
-{
-    let n = s.len();
-    let mut i: usize = 0;
-    while i < n {
-        to[i] = s[i];
-        i += 1;
+/// A refusal, and the offset of the record at fault, 0 where none is.
+#[derive(Clone, Copy, Drop, PartialEq, Eq, Debug)]
+pub struct Refused {
+    pub refusal: Refusal,
+    pub offset: usize,
+}
+
+impl From<Refusal> for Refused {
+    ghost from_gives = { λ refusal r. r ≡ refused_by refusal };
+
+    fn from(refusal: Refusal) -> Refused {
+        Refused { refusal, offset: 0 }
+    }
+}
+
+/// A lent buffer and the place in it that comes next: bytes are laid over it from there on, and what falls past its end is dropped.
+#[derive(Drop)]
+pub struct Writer<'a> {
+    pub out: &'a mut [u8],
+    pub at: usize,
+}
+
+impl<'a> Writer<'a> {
+    pub fn new(out: &'a mut [u8]) -> Writer<'a>
+        ensures same { result.out.ghost_name ≡ out.entry.ghost_name }
+        ensures bytes { result.out.now ≡ out.old }
+        ensures place { result.at ≡ 0 }
+    {
+        Writer { out, at: 0 }
+    }
+
+    pub fn put_byte(&mut self, b: u8)
+        ensures { Puts self.old (b ∷ []) self.new }
+    {
+        let at = self.at;
+        self.at = at.saturating_add(1);
+        if at < self.out.len() {
+            self.out[at] = b;
+        }
+    }
+
+    pub fn put_slice(&mut self, s: &[u8])
+        ensures { Puts self.old s.now self.new }
+    {
+        lay(self.out, self.at, s);
+        self.at = self.at.saturating_add(s.len());
+    }
+
+    pub fn put_u16(&mut self, n: u16)
+        ensures { Puts self.old (le_bytes 2 n) self.new }
+    {
+        self.put_slice(&u16::to_le_bytes(n));
+    }
+
+    fn put_u32(&mut self, n: u32)
+        ensures { Puts self.old (le_bytes 4 n) self.new }
+    {
+        self.put_slice(&u32::to_le_bytes(n));
+    }
+
+    pub fn put_u64(&mut self, n: u64)
+        ensures { Puts self.old (le_bytes 8 n) self.new }
+    {
+        self.put_slice(&u64::to_le_bytes(n));
+    }
+
+    pub fn put_head(&mut self, size: u16, kind: u16, start: u32, end: u32)
+        ensures { Puts self.old (head_bytes size kind start end) self.new }
+    {
+        self.put_u16(size);
+        self.put_u16(kind);
+        self.put_u32(start);
+        self.put_u32(end);
+    }
+
+    // The digits are laid from the last one down, then put as one slice.
+    pub fn put_decimal(&mut self, n: u64)
+        ensures { Puts self.old (decimal n) self.new }
+    {
+        let mut digits = [0u8; 20];
+        let mut i = 19;
+        let mut m = n;
+        while 10 <= m {
+            digits[i] = b'0' + (m % 10) as u8;
+            m /= 10;
+            i -= 1;
+        }
+        digits[i] = b'0' + m as u8;
+        self.put_slice(&digits[i..]);
     }
 }
 
 // Room is tested once, so that a slice that fits is one copy and a slice that is only measured costs nothing.
-pub fn put_slice(out: &mut [u8], at: usize, s: &[u8]) -> usize
-    ensures { Wrote out.old at s.now out.new result }
+fn lay(out: &mut [u8], at: usize, s: &[u8])
+    ensures { out.new ≡ over out.old at s.now }
 {
-    let n = s.len();
     if out.len() <= at {
-        return advance(at, n);
+        return;
     }
     let room = out.len() - at;
-    if n <= room {
-        let end = at + n;
-        copy(&mut out[at..end], s);
-        return end;
+    if s.len() <= room {
+        out[at..at + s.len()].copy_from_slice(s);
+    } else {
+        out[at..].copy_from_slice(&s[..room]);
     }
-    copy(&mut out[at..], &s[..room]);
-    advance(at, n)
-}
-
-fn store_le(to: &mut [u8], n: u64)
-    ensures { to.new ≡ le_bytes (length to.old) n }
-{
-    let mut m = n;
-    let mut i: usize = 0;
-    while i < to.len() {
-        to[i] = (m % 256) as u8;
-        m = m / 256;
-        i += 1;
-    }
-}
-
-// The k lowest bytes of n; byte by byte only across the buffer's end.
-fn put_le(out: &mut [u8], at: usize, k: usize, n: u64) -> usize
-    ensures { Wrote out.old at (le_bytes k n) out.new result }
-{
-    if out.len() <= at {
-        return advance(at, k);
-    }
-    if k <= out.len() - at {
-        let end = at + k;
-        store_le(&mut out[at..end], n);
-        return end;
-    }
-    put_le_bytes(out, at, k, n)
-}
-
-fn put_le_bytes(out: &mut [u8], at: usize, k: usize, n: u64) -> usize
-    ensures { Wrote out.old at (le_bytes k n) out.new result }
-{
-    let mut a = at;
-    let mut m = n;
-    let mut j = k;
-    while 0 < j {
-        a = put_byte(out, a, (m % 256) as u8);
-        m = m / 256;
-        j -= 1;
-    }
-    a
-}
-
-pub fn put_u16(out: &mut [u8], at: usize, n: u16) -> usize
-    ensures { Wrote out.old at (le_bytes 2 n) out.new result }
-{
-    put_le(out, at, 2, n as u64)
-}
-
-fn put_u32(out: &mut [u8], at: usize, n: u32) -> usize
-    ensures { Wrote out.old at (le_bytes 4 n) out.new result }
-{
-    put_le(out, at, 4, n as u64)
-}
-
-pub fn put_u64(out: &mut [u8], at: usize, n: u64) -> usize
-    ensures { Wrote out.old at (le_bytes 8 n) out.new result }
-{
-    put_le(out, at, 8, n)
-}
-
-pub fn put_head(out: &mut [u8], at: usize, size: u16, kind: u16, start: u32, end: u32) -> usize
-    ensures { Wrote out.old at (head_bytes size kind start end) out.new result }
-{
-    let a = put_u16(out, at, size);
-    let b = put_u16(out, a, kind);
-    let c = put_u32(out, b, start);
-    put_u32(out, c, end)
-}
-
-// The digits are laid from the last one down, then put as one slice.
-pub fn put_decimal(out: &mut [u8], at: usize, n: u64) -> usize
-    ensures { Wrote out.old at (decimal n) out.new result }
-{
-    let mut digits = [0u8; 20];
-    let mut i: usize = 19;
-    let mut m = n;
-    while 10 <= m {
-        digits[i] = (48 + m % 10) as u8;
-        m = m / 10;
-        i -= 1;
-    }
-    digits[i] = (48 + m) as u8;
-    put_slice(out, at, &digits[i..])
-}
-
-fn wide(b: u8) -> u16
-    ensures { (result ≡ b) × (result < 256) }
-{
-    b as u16
 }
 
 pub fn u16_at(s: &[u8], at: usize) -> u16
     requires { at + 2 ≤ length s.now }
     ensures { result ≡ u16_at s.now at }
 {
-    wide(s[at]) + 256 * wide(s[at + 1])
+    u16::from_le_bytes([s[at], s[at + 1]])
 }
 
 pub fn u32_at(s: &[u8], at: usize) -> u32
     requires { at + 4 ≤ length s.now }
     ensures { result ≡ u32_at s.now at }
 {
-    let low = u16_at(s, at);
-    let high = u16_at(s, at + 2);
-    (low as u32) + 65536 * (high as u32)
+    u32::from(u16_at(s, at)) + (u32::from(u16_at(s, at + 2)) << 16)
 }
 
 pub fn u64_at(s: &[u8], at: usize) -> u64
     requires { at + 8 ≤ length s.now }
     ensures { result ≡ u64_at s.now at }
 {
-    let low = u32_at(s, at);
-    let high = u32_at(s, at + 4);
-    (low as u64) + 4294967296 * (high as u64)
+    u64::from(u32_at(s, at)) + (u64::from(u32_at(s, at + 4)) << 32)
 }

@@ -8,8 +8,9 @@ use lib.Dec.{eqb}
 use lib.ListN.{length}
 use Rattle.wire.specs.Bytes.{Bytes, bytes}
 use Rattle.wire.specs.Pick.{pick}
-use Rattle.wire.specs.Put.{Wrote}
-use Rattle.wire.proofs.Laws.{then, Rest, rest_all, rest_step, rest_none, wrote_length}
+use Rattle.wire.specs.Puts.{Puts}
+use Rattle.wire.specs.declared.Writer.{Writer}
+use Rattle.wire.proofs.Puts.{then, Rest, rest_all, rest_step, rest_none}
 use Rattle.schema.specs.Kind.{s_deleted}
 use Rattle.schema.specs.Payload.{is_declaration, is_deleted, name_of, after_name, indices_of}
 use Rattle.schema.specs.Table.{is_inside, is_outside}
@@ -42,33 +43,33 @@ deleted_at {t} {at} f h e =
       next = record { may = is_outside; stands = s; begins = λ k. (record_at s k).allowed };
     }
 
-module _ {t : Bytes} {at : ℕ} {fields : Bool} {o : Bytes} {to : ℕ} {o' : Bytes} {to' : ℕ} where
-  pub ended_deleted : {m : Bytes} {b next : ℕ} → DeletedAt t at → next ≡ next_at t at
-      → Wrote o to (deleted_text fields (indices_of (payload_at t at))) m b → Wrote m b (bytes "}\n") o' to' → Ended t at fields o to o' next to'
-  ended_deleted d e v w =
+module _ {t : Bytes} {at : ℕ} {fields : Bool} {w w' : Writer} where
+  pub ended_deleted : {m : Writer} {next : ℕ} → DeletedAt t at → next ≡ next_at t at → Puts w (deleted_text fields (indices_of (payload_at t at))) m
+      → Puts m (bytes "}\n") w' → Ended t at fields w next w'
+  ended_deleted d e v q =
       let z = d.whole in
-      rw e (record { wrote = rw d.deleted (then v w); outside = d.next; later = d.later; onward = omega arith })
+      rw e (record { put = rw d.deleted (then v q); outside = d.next; later = d.later; onward = omega arith })
 
   -- no index is deleted
-  none : Fielded t at → (at < length t → eqb (kind_at t at) s_deleted ≡ false) → deleted_of (records_from t at) ≡ [] → Wrote o to (bytes "}\n") o' to'
-      → Ended t at fields o to o' at to'
+  none : Fielded t at → (at < length t → eqb (kind_at t at) s_deleted ≡ false) → deleted_of (records_from t at) ≡ [] → Puts w (bytes "}\n") w'
+      → Ended t at fields w at w'
   unfolding deleted_text pick
-  none f k e w =
+  none f k e q =
       record {
-        wrote = rw e w;
+        put = rw e q;
         outside = record { may = is_inside; stands = f.stands; begins = λ h. rw (f.stopped h, k h) at (record_at f.stands h).allowed };
         later = refl;
         onward = omega arith;
       }
 
-  pub ended_end : Fielded t at → length t ≤ at → Wrote o to (bytes "}\n") o' to' → Ended t at fields o to o' at to'
-  ended_end f h w = none f (λ k. absurd (omega arith)) (ap deleted_of (records_end t at h)) w
+  pub ended_end : Fielded t at → length t ≤ at → Puts w (bytes "}\n") w' → Ended t at fields w at w'
+  ended_end f h q = none f (λ k. absurd (omega arith)) (ap deleted_of (records_end t at h)) q
 
-  pub ended_other : Fielded t at → at < length t → eqb (kind_at t at) s_deleted ≡ false → Wrote o to (bytes "}\n") o' to' → Ended t at fields o to o' at to'
-  ended_other f h e w =
+  pub ended_other : Fielded t at → at < length t → eqb (kind_at t at) s_deleted ≡ false → Puts w (bytes "}\n") w' → Ended t at fields w at w'
+  ended_other f h e q =
       let r = record_at f.stands h in
       none f (λ k. e) (ap deleted_of r.records ∙ (at_declaration (records_from t (next_at t at)) (token_at t at) (rw (f.stopped h, e) at r.allowed)
-      r.right).deleted) w
+      r.right).deleted) q
 
 -- a declaration's head, and what it holds after it
 pub record HeadAt (t : Bytes) (at : ℕ) : Type 0 where
@@ -83,40 +84,32 @@ head_at_lem {t} {at} o h =
     let q = at_declaration (records_from t (next_at t at)) (token_at t at) (o.begins h) r.right in
     record { whole = r.whole; right = q.rule; inside = r.next is_inside q.after; later = ap declarations_of r.records ∙ q.declarations }
 
-pub declared : {t : Bytes} {at : ℕ} {o : Bytes} {to : ℕ} {m : Bytes} {b end : ℕ} {n : Bytes} {c next : ℕ} {o' : Bytes} {to' : ℕ} → HeadAt t at
-    → Wrote o to (head_text (comment_of (after_name (payload_at t at))) (variant_of (kind_at t at)) (name_of (payload_at t at))) m b
-    → Fields t (next_at t at) m b n end c → Ended t end (not (eqb end (next_at t at))) n c o' next to' → Declared t at o to o' next to'
+pub declared : {t : Bytes} {at : ℕ} {w m n w' : Writer} {end next : ℕ} → HeadAt t at
+    → Puts w (head_text (comment_of (after_name (payload_at t at))) (variant_of (kind_at t at)) (name_of (payload_at t at))) m
+    → Fields t (next_at t at) m end n → Ended t end (not (eqb end (next_at t at))) n next w' → Declared t at w next w'
 unfolding declaration_text
 declared {t} {at} h v f e =
     let z = h.whole in
     let x = f.onward in
     let y = e.onward in
     record {
-      wrote = rw (f.some, f.deleted, append_assoc (head_text _ _ _ ++ fields_text _ _ _) (deleted_text _ _) (bytes "}\n")) (then (then v f.wrote) e.wrote);
+      put = rw (f.some, f.deleted, append_assoc (head_text _ _ _ ++ fields_text _ _ _) (deleted_text _ _) (bytes "}\n")) (then (then v f.put) e.put);
       outside = e.outside;
       later = h.later ∙ rw (f.later, e.later);
       onward = omega arith;
     }
 
 -- what is left of the declarations at a place
-pub record Declaring (t : Bytes) (from : ℕ) (imported : Bool) (o₀ : Bytes) (to₀ : ℕ) (o : Bytes) (a at : ℕ) (parted : Bool) : Type 0 where
+pub record Declaring (t : Bytes) (from : ℕ) (imported : Bool) (w₀ w : Writer) (at : ℕ) (parted : Bool) : Type 0 where
   pub outside : Outside t at
-  pub left : Rest o a (declarations_text parted (declarations_of (records_from t at))) o₀ to₀ (declarations_text imported (declarations_of (records_from t from)))
-  pub size : length o ≡ length o₀
+  pub left : Rest w (declarations_text parted (declarations_of (records_from t at))) w₀ (declarations_text imported (declarations_of (records_from t from)))
 
-pub declaring_begin : {t : Bytes} {from : ℕ} {imported : Bool} {o : Bytes} {a : ℕ} → Outside t from → Declaring t from imported o a o a from imported
-declaring_begin s = record { outside = s; left = rest_all; size = refl }
+pub declaring_begin : {t : Bytes} {from : ℕ} {imported : Bool} {w : Writer} → Outside t from → Declaring t from imported w w from imported
+declaring_begin s = record { outside = s; left = rest_all }
 
-module _ {t : Bytes} {from : ℕ} {imported : Bool} {o₀ : Bytes} {to₀ : ℕ} {o : Bytes} {a at : ℕ} {parted : Bool}
-    (g : Declaring t from imported o₀ to₀ o a at parted) where
-  pub declaring_more : {m : Bytes} {b : ℕ} {o' : Bytes} {a' next : ℕ} → Wrote o a (blank parted) m b → Declared t at m b o' next a'
-      → Declaring t from imported o₀ to₀ o' a' next true
-  declaring_more v d =
-      record {
-        outside = d.outside;
-        left = rest_step (then v d.wrote) g.left (rw d.later);
-        size = wrote_length (then v d.wrote) ∙ g.size;
-      }
+module _ {t : Bytes} {from : ℕ} {imported : Bool} {w₀ w : Writer} {at : ℕ} {parted : Bool} (g : Declaring t from imported w₀ w at parted) where
+  pub declaring_more : {m w' : Writer} {next : ℕ} → Puts w (blank parted) m → Declared t at m next w' → Declaring t from imported w₀ w' next true
+  declaring_more v d = record { outside = d.outside; left = rest_step (then v d.put) g.left (rw d.later) }
 
-  pub declaring_done : length t ≤ at → Wrote o₀ to₀ (declarations_text imported (declarations_of (records_from t from))) o a
+  pub declaring_done : length t ≤ at → Puts w₀ (declarations_text imported (declarations_of (records_from t from))) w
   declaring_done h = rest_none g.left (rw (records_end t at h))

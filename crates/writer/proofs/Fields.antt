@@ -8,8 +8,9 @@ use borrow.Author.Tests.{eq-eqb, ne_eqb, eqb-true, eqb-false, ltb-true, ltb-fals
 use lib.Dec.{ltb, eqb}
 use lib.ListN.{length, drop, length-drop}
 use Rattle.wire.specs.Bytes.{Bytes}
-use Rattle.wire.specs.Put.{Wrote}
-use Rattle.wire.proofs.Laws.{then, Rest, rest_all, rest_step, rest_none, wrote_length}
+use Rattle.wire.specs.Puts.{Puts}
+use Rattle.wire.specs.declared.Writer.{Writer}
+use Rattle.wire.proofs.Puts.{then, Rest, rest_all, rest_step, rest_none}
 use Rattle.token.specs.Token.{Token}
 use Rattle.token.specs.Payload.{paragraphs_of}
 use Rattle.schema.specs.Ast.{TypeVariant}
@@ -89,16 +90,15 @@ no_field {t} {at} s h e =
     (λ q. (at_declaration rest (token_at t at) q r.right).fields)
 
 -- what is left of a declaration's fields at a place
-pub record Fielding (t : Bytes) (from : ℕ) (o₀ : Bytes) (to₀ : ℕ) (o : Bytes) (a at : ℕ) (commented : Bool) : Type 0 where
+pub record Fielding (t : Bytes) (from : ℕ) (w₀ w : Writer) (at : ℕ) (commented : Bool) : Type 0 where
   pub stands : Stands t at is_inside
   pub onward : from ≤ at
-  pub left : Rest o a (fields_text (not (eqb at from)) commented (fields_of (records_from t at))) o₀ to₀ (fields_text false false (fields_of (records_from t from)))
+  pub left : Rest w (fields_text (not (eqb at from)) commented (fields_of (records_from t at))) w₀ (fields_text false false (fields_of (records_from t from)))
   pub some : (at ≡ from → ⊥) → is_empty (fields_of (records_from t from)) ≡ false
   pub deleted : deleted_of (records_from t from) ≡ deleted_of (records_from t at)
   pub later : declarations_of (records_from t from) ≡ declarations_of (records_from t at)
-  pub size : length o ≡ length o₀
 
-pub fielding_begin : {t : Bytes} {from : ℕ} {o : Bytes} {a : ℕ} → Stands t from is_inside → Fielding t from o a o a from false
+pub fielding_begin : {t : Bytes} {from : ℕ} {w : Writer} → Stands t from is_inside → Fielding t from w w from false
 fielding_begin {from = from} s =
     record {
       stands = s;
@@ -107,19 +107,18 @@ fielding_begin {from = from} s =
       some = λ z. absurd (z refl);
       deleted = refl;
       later = refl;
-      size = refl;
     }
 
-module _ {t : Bytes} {from : ℕ} {o₀ : Bytes} {to₀ : ℕ} {o : Bytes} {a at : ℕ} {commented : Bool} (g : Fielding t from o₀ to₀ o a at commented) where
+module _ {t : Bytes} {from : ℕ} {w₀ w : Writer} {at : ℕ} {commented : Bool} (g : Fielding t from w₀ w at commented) where
   some_field : at < length t → kind_at t at ≡ s_field → (b : Bool) → eqb at from ≡ b → is_empty (fields_of (records_from t from)) ≡ false
   some_field h e true q = rw (← eqb-true at from q) (ap is_empty (field_at g.stands h e).fields)
   some_field h e false q = g.some (eqb-false at from q)
 
-  pub fielding_more : {m : Bytes} {b inner : ℕ} {has : Bool} {o' : Bytes} {a' after : ℕ} → at < length t → kind_at t at ≡ s_field
+  pub fielding_more : {m w' : Writer} {inner after : ℕ} {has : Bool} → at < length t → kind_at t at ≡ s_field
       → inner ≡ next_at t at + 12 * depth_at t (next_at t at) → after ≡ next_at t inner → has ≡ is_commented (payload_at t at)
-      → Wrote o a (blank (not (eqb at from) && (commented || has))) m b → Wrote m b (field_from (payload_at t at) (type_at t (next_at t at))) o' a'
-      → Fielding t from o₀ to₀ o' a' after has
-  fielding_more {inner = inner} h e i n c v w =
+      → Puts w (blank (not (eqb at from) && (commented || has))) m → Puts m (field_from (payload_at t at) (type_at t (next_at t at))) w'
+      → Fielding t from w₀ w' after has
+  fielding_more {inner = inner} h e i n c v q =
       let f = field_at g.stands h e in
       let y = typed (depth_at t (next_at t at)) f.type refl i in
       let p = y.past in
@@ -131,19 +130,18 @@ module _ {t : Bytes} {from : ℕ} {o₀ : Bytes} {to₀ : ℕ} {o : Bytes} {a at
       (record {
         stands = y.next;
         onward = omega arith;
-        left = rest_step (then v w) g.left (ap (fields_text (not (eqb at from)) commented) f.fields
+        left = rest_step (then v q) g.left (ap (fields_text (not (eqb at from)) commented) f.fields
             ∙ rw (field_has (token_at t at) (type_at t (next_at t at)), ← c, field_text_lem (token_at t at) (type_at t (next_at t at)), p.fields, z));
-        some = λ q. some_field h e (eqb at from) refl;
+        some = λ z. some_field h e (eqb at from) refl;
         deleted = g.deleted ∙ f.deleted ∙ p.deleted;
         later = g.later ∙ f.later ∙ p.later;
-        size = wrote_length (then v w) ∙ g.size;
       })
 
   -- no field is left
-  done : fields_of (records_from t at) ≡ [] → (at < length t → eqb (kind_at t at) s_field ≡ false) → Fields t from o₀ to₀ o at a
+  done : fields_of (records_from t at) ≡ [] → (at < length t → eqb (kind_at t at) s_field ≡ false) → Fields t from w₀ at w
   done e k =
       record {
-        wrote = rest_none g.left (rw e);
+        put = rest_none g.left (rw e);
         fielded = record { stands = g.stands; stopped = k };
         some = empty (eqb at from) refl;
         deleted = g.deleted;
@@ -155,8 +153,8 @@ module _ {t : Bytes} {from : ℕ} {o₀ : Bytes} {to₀ : ℕ} {o : Bytes} {a at
       empty true q = rw (q, ← eqb-true at from q, e)
       empty false q = g.some (eqb-false at from q) ∙ sym q
 
-  pub fielding_end : length t ≤ at → Fields t from o₀ to₀ o at a
+  pub fielding_end : length t ≤ at → Fields t from w₀ at w
   fielding_end h = done (ap fields_of (records_end t at h)) (λ k. absurd (omega arith))
 
-  pub fielding_other : at < length t → eqb (kind_at t at) s_field ≡ false → Fields t from o₀ to₀ o at a
+  pub fielding_other : at < length t → eqb (kind_at t at) s_field ≡ false → Fields t from w₀ at w
   fielding_other h e = done (no_field g.stands h e) (λ k. e)

@@ -9,8 +9,9 @@ use lib.Dec.{ltb, eqb}
 use lib.ListN.{length}
 use Rattle.wire.specs.Bytes.{Bytes}
 use Rattle.wire.specs.Pick.{pick}
-use Rattle.wire.specs.Put.{Wrote}
-use Rattle.wire.proofs.Laws.{then, wrote_none, Rest, rest_all, rest_step, rest_none, wrote_length}
+use Rattle.wire.specs.Puts.{Puts}
+use Rattle.wire.specs.declared.Writer.{Writer}
+use Rattle.wire.proofs.Puts.{puts_none, then, Rest, rest_all, rest_step, rest_none}
 use Rattle.token.specs.Payload.{is_comment, paragraphs_of}
 use Rattle.schema.specs.Kind.{s_comment, s_import}
 use Rattle.schema.specs.Payload.{is_import, name_of, after_name}
@@ -46,25 +47,24 @@ import_at_lem {t} {at} o h e =
     }
 
 -- what is left of the imports at a place
-pub record Importing (t : Bytes) (from : ℕ) (o₀ : Bytes) (to₀ : ℕ) (o : Bytes) (a at : ℕ) : Type 0 where
+pub record Importing (t : Bytes) (from : ℕ) (w₀ w : Writer) (at : ℕ) : Type 0 where
   pub opened : Opened t at
   pub onward : from ≤ at
-  pub left : Rest o a (imports_text (imports_of (records_from t at))) o₀ to₀ (imports_text (imports_of (records_from t from)))
+  pub left : Rest w (imports_text (imports_of (records_from t at))) w₀ (imports_text (imports_of (records_from t from)))
   pub some : (at ≡ from → ⊥) → is_empty (imports_of (records_from t from)) ≡ false
   pub later : declarations_of (records_from t from) ≡ declarations_of (records_from t at)
-  pub size : length o ≡ length o₀
 
-pub importing_begin : {t : Bytes} {from : ℕ} {o : Bytes} {a : ℕ} → Opened t from → Importing t from o a o a from
-importing_begin s = record { opened = s; onward = omega arith; left = rest_all; some = λ z. absurd (z refl); later = refl; size = refl }
+pub importing_begin : {t : Bytes} {from : ℕ} {w : Writer} → Opened t from → Importing t from w w from
+importing_begin s = record { opened = s; onward = omega arith; left = rest_all; some = λ z. absurd (z refl); later = refl }
 
-module _ {t : Bytes} {from : ℕ} {o₀ : Bytes} {to₀ : ℕ} {o : Bytes} {a at : ℕ} (g : Importing t from o₀ to₀ o a at) where
+module _ {t : Bytes} {from : ℕ} {w₀ w : Writer} {at : ℕ} (g : Importing t from w₀ w at) where
   some_import : at < length t → kind_at t at ≡ s_import → (b : Bool) → eqb at from ≡ b → is_empty (imports_of (records_from t from)) ≡ false
   some_import h e true q = rw (← eqb-true at from q) (ap is_empty (import_at_lem g.opened h e).imports)
   some_import h e false q = g.some (eqb-false at from q)
 
-  pub importing_more : {o' : Bytes} {a' next : ℕ} → at < length t → kind_at t at ≡ s_import → next ≡ next_at t at
-      → Wrote o a (import_text (name_of (payload_at t at)) (after_name (payload_at t at))) o' a' → Importing t from o₀ to₀ o' a' next
-  importing_more h e n w =
+  pub importing_more : {w' : Writer} {next : ℕ} → at < length t → kind_at t at ≡ s_import → next ≡ next_at t at
+      → Puts w (import_text (name_of (payload_at t at)) (after_name (payload_at t at))) w' → Importing t from w₀ w' next
+  importing_more h e n v =
       let i = import_at_lem g.opened h e in
       let low = i.whole in
       let on = g.onward in
@@ -72,16 +72,15 @@ module _ {t : Bytes} {from : ℕ} {o₀ : Bytes} {to₀ : ℕ} {o : Bytes} {a at
       (record {
         opened = i.next;
         onward = omega arith;
-        left = rest_step w g.left (ap imports_text i.imports);
+        left = rest_step v g.left (ap imports_text i.imports);
         some = λ q. some_import h e (eqb at from) refl;
         later = g.later ∙ i.later;
-        size = wrote_length w ∙ g.size;
       })
 
-  done : imports_of (records_from t at) ≡ [] → (at < length t → is_outside (kind_at t at) ≡ true) → Imported t from o₀ to₀ o at a
+  done : imports_of (records_from t at) ≡ [] → (at < length t → is_outside (kind_at t at) ≡ true) → Imported t from w₀ at w
   done e k =
       record {
-        wrote = rest_none g.left (rw e);
+        put = rest_none g.left (rw e);
         outside = record { may = g.opened.may; stands = g.opened.stands; begins = k };
         some = empty (eqb at from) refl;
         later = g.later;
@@ -91,10 +90,10 @@ module _ {t : Bytes} {from : ℕ} {o₀ : Bytes} {to₀ : ℕ} {o : Bytes} {a at
       empty true q = rw (q, ← eqb-true at from q, e)
       empty false q = g.some (eqb-false at from q) ∙ sym q
 
-  pub importing_end : length t ≤ at → Imported t from o₀ to₀ o at a
+  pub importing_end : length t ≤ at → Imported t from w₀ at w
   importing_end h = done (ap imports_of (records_end t at h)) (λ k. absurd (omega arith))
 
-  pub importing_other : at < length t → eqb (kind_at t at) s_import ≡ false → Imported t from o₀ to₀ o at a
+  pub importing_other : at < length t → eqb (kind_at t at) s_import ≡ false → Imported t from w₀ at w
   importing_other h e =
       let r = record_at g.opened.stands h in
       let k : is_outside (kind_at t at) ≡ true = rw e at (g.opened.begins h) in
@@ -137,13 +136,13 @@ comment_at t s h e =
       later = ap declarations_of r.records ∙ q.declarations;
     }
 
-pub commented : {t : Bytes} {o : Bytes} {to : ℕ} {m : Bytes} {b : ℕ} {o' : Bytes} {next to' : ℕ} → CommentAt t → next ≡ next_at t 0
-    → Wrote o to (comment_text [] (paragraphs_of (payload_at t 0))) m b → Wrote m b (blank (ltb next (length t))) o' to' → Commented t o to o' next to'
+pub commented : {t : Bytes} {w m w' : Writer} {next : ℕ} → CommentAt t → next ≡ next_at t 0 → Puts w (comment_text [] (paragraphs_of (payload_at t 0))) m
+    → Puts m (blank (ltb next (length t))) w' → Commented t w next w'
 unfolding opening_text
-commented {t} c n v w =
+commented {t} c n v q =
     rw n
     (record {
-      wrote = rw (c.opening, (comment_parts (payload_at t 0) c.right).some, c.imports, c.later, ← more_at c.next) (then v (rw n at w));
+      put = rw (c.opening, (comment_parts (payload_at t 0) c.right).some, c.imports, c.later, ← more_at c.next) (then v (rw n at q));
       opened = c.next;
       imports = c.imports;
       later = c.later;
@@ -154,21 +153,21 @@ importing : (t : Bytes) → is_schema_table t ≡ true → 0 < length t → eqb 
 unfolding may_follow pick
 importing t s h e = rw e at (record_at (stands_start t s) h).allowed
 
-module _ (t : Bytes) (s : is_schema_table t ≡ true) {o : Bytes} {to : ℕ} where
-  plain : opening_of (records_of t) ≡ [] → (0 < length t → is_importing (kind_at t 0) ≡ true) → Commented t o to o 0 to
+module _ (t : Bytes) (s : is_schema_table t ≡ true) {w : Writer} where
+  plain : opening_of (records_of t) ≡ [] → (0 < length t → is_importing (kind_at t 0) ≡ true) → Commented t w 0 w
   unfolding opening_text blank pick
   plain e k =
       record {
-        wrote = rw e wrote_none;
+        put = rw e puts_none;
         opened = record { may = may_follow 0; stands = stands_start t s; begins = k };
         imports = refl;
         later = refl;
       }
 
-  pub uncommented_end : length t ≤ 0 → Commented t o to o 0 to
+  pub uncommented_end : length t ≤ 0 → Commented t w 0 w
   uncommented_end h = plain (ap opening_of (records_end t 0 h)) (λ k. absurd (omega arith))
 
-  pub uncommented_other : 0 < length t → eqb (kind_at t 0) s_comment ≡ false → Commented t o to o 0 to
+  pub uncommented_other : 0 < length t → eqb (kind_at t 0) s_comment ≡ false → Commented t w 0 w
   uncommented_other h e =
       let r = record_at (stands_start t s) h in
       let rest = records_from t (next_at t 0) in

@@ -1,20 +1,27 @@
 // The canonical text of a schema table: schema.rs's writers, over the records of a table that the check let pass.
 #![tactic(auto)]
 
-ghost use Rattle.std.specs.Prelude.{◌≡◌, true, ◌+◌, ◌*◌, ◌<◌, length};
+ghost use Rattle.std.specs.Prelude.{◌≡◌, true, ◌+◌, ◌*◌, ◌<◌, ◌≤◌, length};
+ghost use Rattle.wire.specs.Le.{u16_at};
 ghost use Rattle.wire.specs.Put.{Wrote};
-ghost use Rattle.schema.specs.Payload.{is_field};
+ghost use Rattle.wire.specs.Puts.{Puts};
+ghost use Rattle.token.specs.Kinds as token_kinds;
+ghost use Rattle.schema.specs.Kinds.{number_of};
+ghost use Rattle.schema.specs.Payload.{is_field, is_plain_type};
 ghost use Rattle.schema.specs.Table.{records_of, is_inside, is_type, is_schema_table};
 ghost use Rattle.schema.specs.Decode.{declarations_of, schema_of};
-ghost use Rattle.schema.specs.Checked.{checked};
-ghost use Rattle.schema.specs.declared.Checked.TheVariants.{Fine};
 ghost use Rattle.schema.specs.Walk.{records_from, Stands};
 ghost use Rattle.text.specs.Text.{type_text, is_unit, field_type, declarations_text, text_of};
 ghost use Rattle.writer.specs.Parts.{type_at, depth_at, is_base, base_text, field_from, is_commented};
 ghost use Rattle.writer.specs.Written.{Writes};
 ghost use Rattle.writer.specs.Steps.{Nested, Outside, Opened, Fielded, Fields, Ended, Declared, Imported, Commented};
 
-use schema::{Checked, kind};
+use schema::kind::Kind;
+use token::kind::Kind as TokenKind;
+use wire::{Refusal, Refused, Writer};
+
+// Records are told by their places in the table, as schema tells them (`kind_at`, `next_at`, `payload_at`), so the loops over them step from place to
+// place.
 
 // The place of the type inside all arrays of a type.
 fn innermost(t: &[u8], from: usize) -> usize
@@ -22,76 +29,82 @@ fn innermost(t: &[u8], from: usize) -> usize
     ensures { result ≡ from + 12 * depth_at t.now from }
 {
     let mut at = from;
-    while schema::kind_at(t, at) == kind::ARRAY {
+    while schema::kind_at(t, at) == Kind::Array {
         at += 12;
     }
     at
 }
 
+// The token kind of a plain type, from its payload.
+fn plain_kind(p: &[u8]) -> TokenKind
+    requires { is_plain_type p.now ≡ true }
+    ensures { token_kinds.number_of result ≡ u16_at p.now 0 }
+{
+    TokenKind::try_from(wire::u16_at(p, 0)).unwrap()
+}
+
 // A plain type or a custom one.
-fn put_base(out: &mut [u8], at: usize, kind: u16, p: &[u8]) -> usize
-    requires { is_base kind p.now ≡ true }
-    ensures { Wrote out.old at (base_text kind p.now) out.new result }
+fn put_base(w: &mut Writer, kind: Kind, p: &[u8])
+    requires { is_base (number_of kind) p.now ≡ true }
+    ensures { Puts w.old (base_text (number_of kind) p.now) w.new }
 {
-    if kind == kind::PLAIN {
-        return text::put_plain(out, at, wire::u16_at(p, 0));
+    match kind {
+        Kind::Plain => text::put_plain(w, plain_kind(p)),
+        _ => text::put_custom(w, schema::name_of(p), schema::after_name(p)),
     }
-    text::put_custom(out, at, schema::name_of(p), schema::after_name(p))
 }
 
-// Type and TypeVariant write each other; `left` is the number of arrays still inside.
+// Type and TypeVariant write each other; `left` is the number of arrays still inside, which bounds how deep the calls go.
 #[cycle(put_type_put_variant)]
-fn put_type(out: &mut [u8], at: usize, t: &[u8], from: usize, left: usize) -> usize
+fn put_type(w: &mut Writer, t: &[u8], from: usize, left: usize)
     requires { Nested t.now from left }
-    ensures { Wrote out.old at (type_text (type_at t.now from)) out.new result }
+    ensures { Puts w.old (type_text (type_at t.now from)) w.new }
 {
-    put_variant(out, at, t, from, left)
+    put_variant(w, t, from, left);
 }
 
 #[cycle(put_type_put_variant)]
-fn put_variant(out: &mut [u8], at: usize, t: &[u8], from: usize, left: usize) -> usize
+fn put_variant(w: &mut Writer, t: &[u8], from: usize, left: usize)
     requires { Nested t.now from left }
-    ensures { Wrote out.old at (type_text (type_at t.now from)) out.new result }
+    ensures { Puts w.old (type_text (type_at t.now from)) w.new }
 {
-    let kind = schema::kind_at(t, from);
-    if kind == kind::ARRAY {
-        let a = wire::put_byte(out, at, b'[');
-        let b = put_type(out, a, t, from + 12, left - 1);
-        return wire::put_byte(out, b, b']');
+    match schema::kind_at(t, from) {
+        Kind::Array => {
+            w.put_byte(b'[');
+            put_type(w, t, from + 12, left - 1);
+            w.put_byte(b']');
+        }
+        kind => put_base(w, kind, schema::payload_at(t, from)),
     }
-    put_base(out, at, kind, schema::payload_at(t, from))
 }
 
 fn is_unit(t: &[u8], from: usize) -> bool
     requires { Stands t.now from is_type }
     ensures { result ≡ is_unit (type_at t.now from) }
 {
-    if schema::kind_at(t, from) == kind::PLAIN {
-        return wire::u16_at(schema::payload_at(t, from), 0) == token::kind::UNIT;
-    }
-    false
+    schema::kind_at(t, from) == Kind::Plain
+        && plain_kind(schema::payload_at(t, from)) == TokenKind::Unit
 }
 
 // A field's own Unit type is omitted.
-fn put_field_type(out: &mut [u8], at: usize, t: &[u8], from: usize, left: usize) -> usize
+fn put_field_type(w: &mut Writer, t: &[u8], from: usize, left: usize)
     requires { Nested t.now from left }
-    ensures { Wrote out.old at (field_type (type_at t.now from)) out.new result }
+    ensures { Puts w.old (field_type (type_at t.now from)) w.new }
 {
-    if is_unit(t, from) {
-        return at;
+    if !is_unit(t, from) {
+        w.put_slice(b": ");
+        put_type(w, t, from, left);
     }
-    let a = wire::put_slice(out, at, b": ");
-    put_type(out, a, t, from, left)
 }
 
 // A field from its payload and its type, which begins at `next`.
-fn put_field(out: &mut [u8], at: usize, p: &[u8], t: &[u8], next: usize, left: usize) -> usize
+fn put_field(w: &mut Writer, p: &[u8], t: &[u8], next: usize, left: usize)
     requires { (is_field p.now ≡ true) × Nested t.now next left }
-    ensures { Wrote out.old at (field_from p.now (type_at t.now next)) out.new result }
+    ensures { Puts w.old (field_from p.now (type_at t.now next)) w.new }
 {
-    let a = text::put_field_name(out, at, p[0], &p[9..]);
-    let b = put_field_type(out, a, t, next, left);
-    text::put_field_index(out, b, wire::u64_at(p, 1))
+    text::put_field_name(w, p[0], &p[9..]);
+    put_field_type(w, t, next, left);
+    text::put_field_index(w, wire::u64_at(p, 1));
 }
 
 // Whether a field has a comment, from its payload.
@@ -99,171 +112,140 @@ fn has_comment(p: &[u8]) -> bool
     requires { is_field p.now ≡ true }
     ensures { result ≡ is_commented p.now }
 {
-    let rest = schema::after_name(&p[9..]);
-    2 < rest.len()
+    2 < schema::after_name(&p[9..]).len()
 }
 
-// A place of the table and one of the text.
-#[derive(Clone, Copy, Drop)]
-pub struct Walk {
-    pub at: usize,
-    pub to: usize,
-}
-
-fn put_fields(out: &mut [u8], to: usize, t: &[u8], from: usize) -> Walk
+fn put_fields(w: &mut Writer, t: &[u8], from: usize) -> usize
     requires { Stands t.now from is_inside }
-    ensures { Fields t.now from out.old to out.new result.at result.to }
+    ensures { Fields t.now from w.old result w.new }
 {
     let mut at = from;
-    let mut a = to;
     let mut commented = false;
-    while at < t.len() {
-        if schema::kind_at(t, at) != kind::FIELD {
-            return Walk { at, to: a };
-        }
-        let start = at;
-        let next = schema::next_at(t, start);
+    while at < t.len() && schema::kind_at(t, at) == Kind::Field {
+        let next = schema::next_at(t, at);
         let inner = innermost(t, next);
-        let p = schema::payload_at(t, start);
+        let p = schema::payload_at(t, at);
         let has = has_comment(p);
-        let b = text::put_blank(out, a, (start != from) & (commented | has));
-        at = schema::next_at(t, inner);
+        text::put_blank(w, at != from && (commented || has));
+        put_field(w, p, t, next, (inner - next) / 12);
         commented = has;
-        a = put_field(out, b, p, t, next, (inner - next) / 12);
+        at = schema::next_at(t, inner);
     }
-    Walk { at, to: a }
+    at
 }
 
 // What stands after a declaration's fields: its deleted indices, where there are any, and its end.
-fn put_end(out: &mut [u8], to: usize, t: &[u8], at: usize, fields: bool) -> Walk
+fn put_end(w: &mut Writer, t: &[u8], at: usize, fields: bool) -> usize
     requires { Fielded t.now at }
-    ensures { Ended t.now at fields out.old to out.new result.at result.to }
+    ensures { Ended t.now at fields w.old result w.new }
 {
-    if at < t.len() {
-        if schema::kind_at(t, at) == kind::DELETED {
-            let a = text::put_deleted(out, to, fields, schema::payload_at(t, at));
-            let b = wire::put_slice(out, a, b"}\n");
-            let next = schema::next_at(t, at);
-            return Walk { at: next, to: b };
-        }
+    let mut next = at;
+    if at < t.len() && schema::kind_at(t, at) == Kind::Deleted {
+        text::put_deleted(w, fields, schema::payload_at(t, at));
+        next = schema::next_at(t, at);
     }
-    let b = wire::put_slice(out, to, b"}\n");
-    Walk { at, to: b }
+    w.put_slice(b"}\n");
+    next
 }
 
-fn put_declaration(out: &mut [u8], to: usize, t: &[u8], at: usize) -> Walk
+fn put_declaration(w: &mut Writer, t: &[u8], at: usize) -> usize
     requires { Outside t.now at × (at < length t.now) }
-    ensures { Declared t.now at out.old to out.new result.at result.to }
+    ensures { Declared t.now at w.old result w.new }
 {
-    let next = schema::next_at(t, at);
-    let a = text::put_head(out, to, schema::kind_at(t, at), schema::payload_at(t, at));
-    let w = put_fields(out, a, t, next);
-    let end = w.at;
-    let b = w.to;
-    put_end(out, b, t, end, end != next)
+    let first = schema::next_at(t, at);
+    text::put_head(w, schema::kind_at(t, at), schema::payload_at(t, at));
+    let end = put_fields(w, t, first);
+    put_end(w, t, end, end != first)
 }
 
-fn put_declarations(out: &mut [u8], to: usize, t: &[u8], from: usize, imported: bool) -> usize
+fn put_declarations(w: &mut Writer, t: &[u8], from: usize, imported: bool)
     requires { Outside t.now from }
-    ensures { Wrote out.old to (declarations_text imported (declarations_of (records_from t.now from))) out.new result }
+    ensures { Puts w.old (declarations_text imported (declarations_of (records_from t.now from))) w.new }
 {
     let mut parted = imported;
     let mut at = from;
-    let mut a = to;
     while at < t.len() {
-        let b = text::put_blank(out, a, parted);
-        let w = put_declaration(out, b, t, at);
+        text::put_blank(w, parted);
+        at = put_declaration(w, t, at);
         parted = true;
-        at = w.at;
-        a = w.to;
     }
-    a
 }
 
-fn put_imports(out: &mut [u8], to: usize, t: &[u8], from: usize) -> Walk
+fn put_imports(w: &mut Writer, t: &[u8], from: usize) -> usize
     requires { Opened t.now from }
-    ensures { Imported t.now from out.old to out.new result.at result.to }
+    ensures { Imported t.now from w.old result w.new }
 {
     let mut at = from;
-    let mut a = to;
-    while at < t.len() {
-        if schema::kind_at(t, at) != kind::IMPORT {
-            return Walk { at, to: a };
-        }
+    while at < t.len() && schema::kind_at(t, at) == Kind::Import {
         let p = schema::payload_at(t, at);
+        text::put_import(w, schema::name_of(p), schema::after_name(p));
         at = schema::next_at(t, at);
-        a = text::put_import(out, a, schema::name_of(p), schema::after_name(p));
     }
-    Walk { at, to: a }
+    at
 }
 
 // The schema comment, where there is one, parted from what follows.
-fn put_opening(out: &mut [u8], to: usize, t: &[u8]) -> Walk
+fn put_opening(w: &mut Writer, t: &[u8]) -> usize
     requires { is_schema_table t.now ≡ true }
-    ensures { Commented t.now out.old to out.new result.at result.to }
+    ensures { Commented t.now w.old result w.new }
 {
-    if 0 < t.len() {
-        if schema::kind_at(t, 0) == kind::COMMENT {
-            let next = schema::next_at(t, 0);
-            let a = text::put_comment(out, to, b"", schema::payload_at(t, 0));
-            let b = text::put_blank(out, a, next < t.len());
-            return Walk { at: next, to: b };
-        }
+    if t.is_empty() || schema::kind_at(t, 0) != Kind::Comment {
+        return 0;
     }
-    Walk { at: 0, to }
+    let next = schema::next_at(t, 0);
+    text::put_comment(w, b"", schema::payload_at(t, 0));
+    text::put_blank(w, next < t.len());
+    next
 }
 
-fn put_schema(out: &mut [u8], at: usize, t: &[u8]) -> usize
+fn put_schema(w: &mut Writer, t: &[u8])
     requires { is_schema_table t.now ≡ true }
-    ensures { Wrote out.old at (text_of (schema_of (records_of t.now))) out.new result }
+    ensures { Puts w.old (text_of (schema_of (records_of t.now))) w.new }
 {
-    let w = put_opening(out, at, t);
-    let first = w.at;
-    let a = w.to;
-    let v = put_imports(out, a, t, first);
-    let next = v.at;
-    let b = v.to;
-    put_declarations(out, b, t, next, next != first)
+    let first = put_opening(w, t);
+    let next = put_imports(w, t, first);
+    put_declarations(w, t, next, next != first);
 }
 
-// A refusal's number and the offset 0, or the length of the text.
-#[derive(Clone, Copy, Drop)]
-pub enum Written {
-    Refused(u16, usize),
-    Text(usize),
+// The text from the buffer's start on, and its length, however much of it the buffer holds.
+fn put_text(t: &[u8], out: &mut [u8]) -> usize
+    requires { is_schema_table t.now ≡ true }
+    ensures { Wrote out.old 0 (text_of (schema_of (records_of t.now))) out.new result }
+{
+    let mut w = Writer { out, at: 0 };
+    put_schema(&mut w, t);
+    w.at
 }
 
-fn write_measured(t: &[u8], out: &mut [u8]) -> Written
-    requires { checked t.now ≡ Fine }
+fn write_measured(t: &[u8], out: &mut [u8]) -> Result<usize, Refused>
+    requires { (length t.now ≤ 131072) × (is_schema_table t.now ≡ true) }
     ensures { Writes t.now out.old out.new result }
 {
-    let need = put_schema(&mut out[..0], 0, t);
+    let need = put_text(t, &mut out[..0]);
     if out.len() < need {
-        return Written::Refused(8, 0);
+        return Err(Refusal::NoRoom.into());
     }
-    Written::Text(put_schema(out, 0, t))
+    Ok(put_text(t, out))
 }
 
 // A text has at most four bytes for each byte of its table: it is measured first only where those might not fit.
-fn write_table(t: &[u8], out: &mut [u8]) -> Written
-    requires { checked t.now ≡ Fine }
+fn write_table(t: &[u8], out: &mut [u8]) -> Result<usize, Refused>
+    requires { (length t.now ≤ 131072) × (is_schema_table t.now ≡ true) }
     ensures { Writes t.now out.old out.new result }
 {
     if t.len() <= out.len() / 4 {
-        return Written::Text(put_schema(out, 0, t));
+        return Ok(put_text(t, out));
     }
     write_measured(t, out)
 }
 
 // The canonical text of a schema table, at the start of the buffer. An empty table has none.
-pub fn write(t: &[u8], out: &mut [u8]) -> Written
+pub fn write(t: &[u8], out: &mut [u8]) -> Result<usize, Refused>
     ensures { Writes t.now out.old out.new result }
 {
-    if t.len() == 0 {
-        return Written::Text(0);
+    if t.is_empty() {
+        return Ok(0);
     }
-    match schema::check(t) {
-        Checked::Refused(number) => Written::Refused(number, 0),
-        Checked::Fine => write_table(t, out),
-    }
+    schema::check(t)?;
+    write_table(t, out)
 }

@@ -1,16 +1,7 @@
--- `identifier::build`: the loop has filled a part of the form (`Filled`), and what is left of it falls.
-use Rattle.identifier.proofs.Left.{falls}
-use Rattle.identifier.proofs.Filled.{empty, more, whole}
+-- `identifier::build`: what was put into the array of zeros.
+use Rattle.std.proofs.Common.{rules}
+use Rattle.identifier.proofs.Filled.{formed}
 use Rattle.identifier.proofs.build.Goals as goal
 
-pub loop-at-init : goal.loop-at-init
-loop-at-init c = empty _ _ _
-
-pub loop-at-smaller : goal.loop-at-smaller
-loop-at-smaller c = search falls
-
-pub loop-at-preserved : goal.loop-at-preserved
-loop-at-preserved c = search more
-
-pub returns-else-next : goal.returns-else-next
-returns-else-next c = search whole
+pub returns : goal.returns
+returns c = formed c.args.case c.args.name.now c.requires c.new-w.ensures.bytes c.new-w.ensures.place c.put_form.ensures (search rules)

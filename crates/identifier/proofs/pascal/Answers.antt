@@ -1,7 +1,8 @@
--- `identifier::pascal`: `build` at this form's settings.
+-- `identifier::pascal`: `build` in this case.
+use Rattle.std.proofs.Common.{rules}
 use Rattle.identifier.specs.Forms.{pascal_of}
 use Rattle.identifier.proofs.pascal.Goals as goal
 
 pub returns : goal.returns
 unfolding pascal_of
-returns c = c.build.ensures
+returns c = search rules

@@ -1,24 +1,13 @@
--- `identifier::put_form`: what is left of the form at a place of the name completes it (`Putting`).
-use native.Mathlib.Omega.{arith}
-use Rattle.identifier.proofs.Added.{putting_begin, putting_more, putting_done}
+-- `identifier::put_form`: what the iterator has left is what is left to put.
+use Rattle.std.proofs.Common.{rules}
+use Rattle.wire.proofs.Puts.{rest_all, rest_step, rest_none}
 use Rattle.identifier.proofs.put_form.Goals as goal
 
-pub loop-i-init : goal.loop-i-init
-loop-i-init c = putting_begin
+pub loop-b-init : goal.loop-b-init
+loop-b-init c = search (rules, rest_all)
 
-pub loop-i-smaller : goal.loop-i-smaller
-loop-i-smaller c =
-    let back8 = c in
-    let loop-test = back8.loop-i-test in
-    omega (arith, loop-test.true)
-
-pub loop-i-preserved : goal.loop-i-preserved
-loop-i-preserved c =
-    let put_next = c.put_next-a in
-    let back8 = c in
-    let loop-test = back8.loop-i-test in
-    let loop = back8.loop-i in
-    putting_more loop.invariant loop-test.true put_next.ensures c.state_after-state.ensures
+pub loop-b-preserved : goal.loop-b-preserved
+loop-b-preserved c = rest_step c.put_byte.ensures c.loop-b.invariant c.in-Some.ensures.steps
 
 pub returns : goal.returns
-returns c = putting_done c.loop-i.invariant c.loop-i-test.false
+returns c = rest_none c.loop-b.invariant c.in-None.ensures.steps.0

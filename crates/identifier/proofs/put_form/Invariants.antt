@@ -1,11 +1,7 @@
--- `identifier::put_form`: what is left of the form at a place of the name completes it (`Putting`).
-use Prim.Native.Nat.{◌-◌}
-use lib.ListN.{length}
-use Rattle.identifier.proofs.Added.{Putting}
+-- `identifier::put_form`: what the iterator has left is what is left to put.
+use Rattle.wire.proofs.Puts.{Rest}
+use Rattle.identifier.specs.Left.{form_of, form_left}
 use Rattle.identifier.proofs.put_form.Given as goal
 
-abbrev pub invariant-loop-i : goal.invariant-loop-i
-invariant-loop-i l = Putting l.up l.bar l.name l.initial.out l.initial.a l.out l.a l.i l.state
-
-abbrev pub decreases-loop-i : goal.decreases-loop-i
-decreases-loop-i l = length l.name - l.i
+abbrev pub invariant-loop-b : goal.invariant-loop-b
+invariant-loop-b l = Rest l.w (form_left l.b-iterator) l.initial.w (form_of l.fn.case l.name)

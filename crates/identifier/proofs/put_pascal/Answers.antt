@@ -1,5 +1,5 @@
--- `identifier::put_pascal`: the form with its settings.
-use borrow.Author.Rules.{rules}
+-- `identifier::put_pascal`: `put_form` in this case.
+use Rattle.std.proofs.Common.{rules}
 use Rattle.identifier.specs.Forms.{pascal_of}
 use Rattle.identifier.proofs.put_pascal.Goals as goal
 

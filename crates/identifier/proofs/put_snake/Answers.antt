@@ -1,5 +1,5 @@
--- `identifier::put_snake`: the form with its settings.
-use borrow.Author.Rules.{rules}
+-- `identifier::put_snake`: `put_form` in this case.
+use Rattle.std.proofs.Common.{rules}
 use Rattle.identifier.specs.Forms.{snake_of}
 use Rattle.identifier.proofs.put_snake.Goals as goal
 

@@ -1,12 +1,12 @@
--- `names::cmp`: each return by the test that led there.
-use Rattle.wire.proofs.Choice.{choice}
+-- `names::cmp`: the order, or R10.
 use Rattle.names.specs.Answer.{compared_of}
+use Rattle.names.proofs.Answers.{refused, answered}
 use Rattle.names.proofs.cmp.Goals as goal
 
-pub returns-then-are_names : goal.returns-then-are_names
+pub returns-in_err-check : goal.returns-in_err-check
 unfolding compared_of
-returns-then-are_names c = rw (← c.are_names.ensures, ← c.compare.ensures) (search choice)
+returns-in_err-check c = rw (← c.are_names.ensures) (refused _ _ c.from_residual.ensures.1 c.in_err-check.ensures)
 
 pub returns : goal.returns
 unfolding compared_of
-returns c = rw (← c.are_names.ensures) (search choice)
+returns c = rw (← c.are_names.ensures) (answered _ c.compare.ensures c.in_ok-check.ensures)

@@ -1,25 +1,25 @@
--- `names::common`: the names before the two places are the same (`Shared`).
-use Rattle.names.proofs.Walk.{room}
-use Rattle.names.proofs.Shared.{share_none, share_one, differ, first_ends, second_ends}
+-- `names::common`: the names before what is left of the two are the same (`Shared`).
+use Rattle.names.proofs.Walk.{rest_shorter}
+use Rattle.names.proofs.Shared.{share_none, share_one, differ, first_ends, second_ends, other_good}
 use Rattle.names.proofs.common.Goals as goal
+use Rattle.names.proofs.common.Goals.{in-Some-Some+then-not-same, in_default, in_default-2}
 
-pub loop-i-init : goal.loop-i-init
-loop-i-init c = search share_none
+pub loop-x-init : goal.loop-x-init
+loop-x-init c = share_none c.args.a.good c.args.b.good
 
-pub returns-then-b-j : goal.returns-then-b-j
-returns-then-b-j c = search second_ends
+pub loop-x-smaller : goal.loop-x-smaller
+loop-x-smaller c = rest_shorter c.in-Some-Some.ensures
 
-pub name_at-x-requires : goal.name_at-x-requires
-name_at-x-requires c = search room
-
-pub name_at-y-requires : goal.name_at-y-requires
-name_at-y-requires c = search room
-
-pub loop-i-preserved : goal.loop-i-preserved
-loop-i-preserved c = search share_one
-
-pub returns-else-same : goal.returns-else-same
-returns-else-same c = search differ
+pub loop-x-preserved : goal.loop-x-preserved
+loop-x-preserved c = share_one c.loop-x.invariant c.in-Some-Some.ensures c.in-Some-Some.ensures' c.same.ensures c.if-not-same.false
 
 pub returns : goal.returns
-returns c = search first_ends
+returns c =
+    elim c.match-split_first_name.branch [
+      | in-Some-Some+then-not-same w ↦ differ c.loop-x.invariant w.in-Some-Some.ensures w.in-Some-Some.ensures' w.same.ensures w.if-not-same.true
+      | in_default w ↦ second_ends c.loop-x.invariant w.in_default.ensures'
+      | in_default-2 w ↦ first_ends c.loop-x.invariant w.in_default.ensures
+    ]
+
+pub invariant_of-result : goal.invariant_of-result
+invariant_of-result c = record { good = other_good c.loop-x.invariant }

@@ -1,11 +1,10 @@
--- `names::common`: the names before the two places are the same (`Shared`).
-use Prim.Native.Nat.{◌-◌}
+-- `names::common`: the names before what is left of the two are the same (`Shared`).
 use lib.ListN.{length}
 use Rattle.names.proofs.Shared.{Shared}
 use Rattle.names.proofs.common.Given as goal
 
-abbrev pub invariant-loop-i : goal.invariant-loop-i
-invariant-loop-i l = Shared l.a l.b l.i l.j
+abbrev pub invariant-loop-x : goal.invariant-loop-x
+invariant-loop-x l = Shared l.fn.a.bytes.now l.fn.b.bytes.now l.one l.other
 
-abbrev pub decreases-loop-i : goal.decreases-loop-i
-decreases-loop-i l = length l.a - l.i
+abbrev pub decreases-loop-x : goal.decreases-loop-x
+decreases-loop-x l = length l.one

@@ -1,16 +1,8 @@
--- `names::count_names`: the loop has counted the names before a place (`Counted`).
-use Rattle.names.proofs.Walk.{room}
-use Rattle.names.proofs.Shared.{count_none, count_one, count_all}
+-- `names::count_names`: a namespace has at most 64 names.
+use native.Mathlib.Omega.{arith}
+use mathlib.Core.Logic.{inl}
+use Rattle.names.proofs.Walk.{whole_few}
 use Rattle.names.proofs.count_names.Goals as goal
 
-pub loop-p-init : goal.loop-p-init
-loop-p-init c = search count_none
-
-pub name_at-name-requires : goal.name_at-name-requires
-name_at-name-requires c = search room
-
-pub loop-p-preserved : goal.loop-p-preserved
-loop-p-preserved c = search count_one
-
-pub returns : goal.returns
-returns c = search count_all
+pub count-requires-clause-fits : goal.count-requires-clause-fits
+count-requires-clause-fits c = inl (omega (arith, whole_few _ c.args.ns.good))

@@ -1,9 +1,8 @@
--- `names::is_namespace`: the loop has checked the names before a place (`Checked`).
-use Rattle.names.proofs.Walk.{Checked}
+-- `names::is_namespace`: the bytes that are left hold as many names as turns are left, where all hold 64.
+use mathlib.Core.Path.{◌≡◌}
+use Prim.Native.Nat.{◌-◌}
+use Rattle.names.specs.Namespace.{are_names, is_namespace}
 use Rattle.names.proofs.is_namespace.Given as goal
 
-abbrev pub invariant-loop-at : goal.invariant-loop-at
-invariant-loop-at l = Checked l.ns l.left l.at
-
-abbrev pub decreases-loop-at : goal.decreases-loop-at
-decreases-loop-at l = l.left
+abbrev pub invariant-loop : goal.invariant-loop
+invariant-loop l = are_names (64 - l.counter) l.rest ≡ is_namespace l.ns

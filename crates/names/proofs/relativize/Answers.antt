@@ -1,12 +1,14 @@
--- `names::relativize`: the names after the common start stored, or R10.
-use Rattle.names.proofs.Shared.{both_good, relative_good, relative_bad}
+-- `names::relativize`: the names after the common start stored, or R10 by one of the two.
+use Rattle.wire.proofs.Choice.{and_first, and_second}
+use Rattle.names.proofs.Shared.{relative_bad}
 use Rattle.names.proofs.relativize.Goals as goal
 
-pub store_relative-requires : goal.store_relative-requires
-store_relative-requires c = both_good _ _ c.are_namespaces.ensures c.if-are_namespaces.true
+pub returns-in_err-checked : goal.returns-in_err-checked
+returns-in_err-checked c =
+    let f = c.in_err-checked.ensures in
+    relative_bad _ (and_first _ _ f.0) c.from_residual.ensures.1 f.1
 
-pub returns-then-are_namespaces : goal.returns-then-are_namespaces
-returns-then-are_namespaces c = search relative_good
-
-pub returns : goal.returns
-returns c = search relative_bad
+pub returns-in_err-checked-2 : goal.returns-in_err-checked-2
+returns-in_err-checked-2 c =
+    let f = c.in_err-checked-2.ensures in
+    relative_bad _ (and_second _ _ f.0) c.from_residual-in_err-checked-2.ensures.1 f.1

@@ -1,16 +1,12 @@
 -- `names::snake_case`: the form stored, or R10.
-use Rattle.identifier.proofs.Filled.{inside}
 use Rattle.names.proofs.Answers.{bad_input, stored, short}
 use Rattle.names.proofs.snake_case.Goals as goal
 
+pub returns-in_err-check : goal.returns-in_err-check
+returns-in_err-check c = bad_input _ c.is_name.ensures c.from_residual.ensures.1 c.in_err-check.ensures
+
 pub snake-requires : goal.snake-requires
-snake-requires c = search short
-
-pub store_form-requires : goal.store_form-requires
-store_form-requires c = search inside
-
-pub returns-then-is_name : goal.returns-then-is_name
-returns-then-is_name c = search stored
+snake-requires c = short _ c.is_name.ensures c.in_ok-check.ensures
 
 pub returns : goal.returns
-returns c = search bad_input
+returns c = stored c.snake.ensures c.store_form.ensures c.is_name.ensures c.in_ok-check.ensures

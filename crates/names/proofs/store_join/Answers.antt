@@ -1,16 +1,13 @@
 -- `names::store_join`: R8, or the three parts at the front.
+use Rattle.std.proofs.Common.{rules}
 use native.Mathlib.Omega.{arith}
-use Rattle.names.proofs.Joined.{join_too_big, join_placed}
+use Rattle.names.proofs.Joined.{join_too_big, join_put}
 use Rattle.names.proofs.store_join.Goals as goal
 
-pub returns-then-out-size : goal.returns-then-out-size
-returns-then-out-size c = search join_too_big
+pub returns-then-out-a : goal.returns-then-out-a
+returns-then-out-a c = join_too_big _ _ c.into.ensures c.if-out-a.true
 
 pub returns : goal.returns
 returns c =
-    let put-slice2 = c.put_slice in
-    let put_byte = c.put_byte-q in
-    let back8 = c in
-    let put-slice = back8.put_slice-p in
-    let if1 = back8.if-out-size in
-    join_placed _ _ if1.false (omega arith) put-slice.ensures put_byte.ensures put-slice2.ensures
+    let w = c.new-w.ensures in
+    join_put _ _ w.place w.bytes (search rules) c.if-out-a.false (omega arith) c.put_slice.ensures c.put_byte.ensures c.put_slice-2.ensures

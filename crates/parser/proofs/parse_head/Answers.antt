@@ -1,72 +1,51 @@
-use mathlib.Core.Path.{refl, sym, ◌∙◌}
-use native.Mathlib.Omega.{arith}
+-- The keyword follows an optional comment; what stands in its place is told at the comment only where that ends the list.
+use mathlib.Core.Path.{sym, ◌∙◌, ap}
 use Rattle.token.specs.Kind.{is_keyword}
-use Rattle.parser.proofs.Laws.{some_kind}
-use Rattle.parser.proofs.Heads.{comment_ends, keyword_fails, Begun, name_fails, left_fails, head}
-use Rattle.parser.proofs.parse_head.Goals.{After-name_number}
+use Rattle.token.proofs.Known.{some_kind}
+use Rattle.parser.proofs.Laws.{handed}
+use Rattle.parser.proofs.Heads.{comment_ends, goes, no_comment, keyword_fails, Begun, name_fails, left_fails, head}
+use Rattle.parser.proofs.parse_head.Goals.{After-missing_name}
 use Rattle.parser.proofs.parse_head.Goals as goal
 
-begun : (c : After-name_number) →
-    let next = c.next-name in
-    let skip-token = c.skip_token-comment in
-    let args = c.args in
-    Begun args.t.now args.c skip-token.result next.result c.name_number.result
+begun : (c : After-missing_name) → Begun c.args.t.now c.args.c c.skip_comment-comment.result c.in-Some.kind c.next-name.result
 begun c =
-    let next = c.next-name in
-    let if2 = c.if-not-is_keyword in
-    let is-keyword = c.is_keyword in
-    let if1 = c.if-comment-kind in
-    let kind-or-end = c.kind_or_end-kind in
-    let skip-token = c.skip_token-comment in
-    let pre = c.requires in
     record {
-      wf = pre;
-      comment = skip-token.ensures;
-      goes = rw (← kind-or-end.ensures) if1.false;
-      step = next.ensures;
-      keyword = rw (← kind-or-end.ensures, ← is-keyword.ensures) (if2.false);
-      missing = rw (← kind-or-end.ensures) c.name_number.ensures;
+      wf = c.requires;
+      comment = c.skip_comment-comment.ensures;
+      here = c.in-Some.ensures;
+      keyword = sym c.if-is_keyword.ensures;
+      step = c.next-name.ensures;
     }
 
-pub returns-then-comment-kind : goal.returns-then-comment-kind
-returns-then-comment-kind c =
-    let kind-or-end = c.kind_or_end-kind in
-    let skip-token = c.skip_token-comment in
-    let pre = c.requires in
-    comment_ends skip-token.ensures pre (rw (← kind-or-end.ensures) c.if-comment-kind.true)
+pub peek-requires : goal.peek-requires
+peek-requires c = c.skip_comment-comment.ensures.read.wf
 
-pub returns-then-not-is_keyword : goal.returns-then-not-is_keyword
-returns-then-not-is_keyword c =
-    let is-keyword = c.is_keyword in
-    let if1 = c.if-comment-kind in
-    let kind-or-end = c.kind_or_end-kind in
-    let skip-token = c.skip_token-comment in
-    keyword_fails skip-token.ensures (rw (← kind-or-end.ensures) if1.false)
-    (rw (← kind-or-end.ensures, ← is-keyword.ensures) (c.if-not-is_keyword.true))
+pub returns-in-None : goal.returns-in-None
+returns-in-None c =
+    comment_ends c.skip_comment-comment.ensures c.requires (sym c.if-is_some.ensures) (sym c.in-None.ensures)
+
+pub returns-in_default : goal.returns-in_default
+returns-in_default c =
+    keyword_fails c.skip_comment-comment.ensures (goes _ _ _ c.in-Some.ensures)
+    (sym (c.if-is_keyword.ensures ∙ ap is_keyword c.in-Some.ensures))
+
+pub returns-in_default-2 : goal.returns-in_default-2
+returns-in_default-2 c =
+    keyword_fails c.skip_comment-comment.ensures (no_comment _ _ (sym c.if-is_some.ensures)) (rw (← c.in-None.ensures))
 
 pub next-name-requires : goal.next-name-requires
 next-name-requires c =
-    let is-keyword = c.is_keyword in
-    let kind-or-end = c.kind_or_end-kind in
-    let skip-token = c.skip_token-comment in
-    (skip-token.ensures.read.wf, rw (← kind-or-end.ensures) (some_kind is_keyword _ refl (sym is-keyword.ensures ∙ c.if-not-is_keyword.false)))
+    (c.skip_comment-comment.ensures.read.wf, rw (← c.in-Some.ensures) (some_kind c.in-Some.kind))
 
-pub returns-in-Failed : goal.returns-in-Failed
-returns-in-Failed c = name_fails (begun (goal.at.returns-in-Failed c).After-name_number) (rw c.in-Failed.is at c.consume_token.ensures)
+pub returns-in_err-left : goal.returns-in_err-left
+returns-in_err-left c =
+    handed _ _ _ _ c.from_residual.ensures.1
+    (name_fails (begun (goal.at.returns-in_err-left c).After-missing_name) c.missing_name.ensures c.in_err-left.ensures)
 
-pub consume_token-requires-2 : goal.consume_token-requires-2
-consume_token-requires-2 c = ((rw c.in-Passed.is at c.consume_token.ensures).read.wf, omega arith)
+pub returns-in_err-after : goal.returns-in_err-after
+returns-in_err-after c =
+    handed _ _ _ _ c.from_residual-in_err-after.ensures.1
+    (left_fails (begun (goal.at.returns-in_err-after c).After-missing_name) c.missing_name.ensures c.in_ok-left.ensures c.in_err-after.ensures)
 
-pub returns-in-Failed-consume_token : goal.returns-in-Failed-consume_token
-returns-in-Failed-consume_token c =
-    let at = goal.at.returns-in-Failed-consume_token c in
-    let consume-token2 = c.consume_token-2 in
-    let consume-token = c.consume_token in
-    left_fails (begun at.After-name_number) (rw c.in-Passed.is at consume-token.ensures) (rw c.in-Failed-consume_token.is at consume-token2.ensures)
-
-pub returns-in-Passed-consume_token : goal.returns-in-Passed-consume_token
-returns-in-Passed-consume_token c =
-    let at = goal.at.returns-in-Passed-consume_token c in
-    let consume-token2 = c.consume_token-2 in
-    let consume-token = c.consume_token in
-    head (begun at.After-name_number) (rw c.in-Passed.is at consume-token.ensures) (rw c.in-Passed-consume_token.is at consume-token2.ensures)
+pub returns : goal.returns
+returns c = head (begun (goal.at.returns c).After-missing_name) c.missing_name.ensures c.in_ok-left.ensures c.in_ok-after.ensures

@@ -33,7 +33,7 @@ returns-then-out-needed c =
     let o = args.out.now in
     let m = judged.ensures in
     let k : length o < 18446744073709551615 = omega arith in
-    rw (measured.nothing o m.wrote)
+    rw (measured.nothing o m.wrote, c.into.ensures)
     (too_long args.t.now o pre.checked.decodes (errors_some _ m.number if1.false) (measured.too_long o m.wrote k c.if-out-needed.true))
 
 pub parse_schema-list-requires : goal.parse_schema-list-requires

@@ -1,12 +1,12 @@
-use mathlib.Core.Path.{sym, ◌∙◌}
-use borrow.Author.Tests.{eq-eqb, ne_eqb}
 use Rattle.wire.specs.Pick.{pick}
+use Rattle.token.specs.declared.kind.Kind.TheVariants.{Struct}
+use Rattle.token.proofs.Known.{not_kind}
 use Rattle.records.proofs.declaration_kind.Goals as goal
 
-pub returns-then-kind_at-eq-STRUCT : goal.returns-then-kind_at-eq-STRUCT
+pub returns-in-Struct : goal.returns-in-Struct
 unfolding pick
-returns-then-kind_at-eq-STRUCT c = rw (eq-eqb _ _ (sym c.kind_at.ensures ∙ c.if-kind_at-eq-STRUCT.true))
+returns-in-Struct c = rw (← c.in-Struct.ensures)
 
-pub returns : goal.returns
+pub returns-in_default : goal.returns-in_default
 unfolding pick
-returns c = rw (ne_eqb _ _ (λ z. c.if-kind_at-eq-STRUCT.false (c.kind_at.ensures ∙ z)))
+returns-in_default c = rw (← c.kind_at.ensures, not_kind c.kind_at.result Struct c.in_default.not-Struct)

@@ -1,19 +1,15 @@
+use borrow.Author.Rules.{rules}
 use native.Mathlib.Omega.{arith}
 use mathlib.Core.Path.{refl}
-use Rattle.wire.proofs.Laws.{wrote_none}
+use Rattle.wire.proofs.Puts.{puts_none}
 use Rattle.records.proofs.Laws.{put_record, whole_short, no_opening, opening}
 use Rattle.records.proofs.put_opening.Goals as goal
 
-pub returns-then-p-eq0 : goal.returns-then-p-eq0
-returns-then-p-eq0 c = rw (no_opening c.comment_at-p.ensures c.if-p-eq0.true) wrote_none
+pub returns-then-is_empty : goal.returns-then-is_empty
+returns-then-is_empty c = rw (no_opening c.comment_at-p.ensures (search rules)) puts_none
 
-pub overflow_cast-size : goal.overflow_cast-size
-overflow_cast-size c = record { fits = omega (arith, whole_short c.comment_at-p.ensures.whole) }
+pub put_record_head-requires : goal.put_record_head-requires
+put_record_head-requires c = omega (arith, whole_short c.comment_at-p.ensures.whole)
 
 pub returns : goal.returns
-returns c =
-    let put-slice = c.put_slice in
-    let put-head = c.put_head-a in
-    let if1 = c.if-p-eq0 in
-    let comment_at = c.comment_at-p in
-    rw (opening comment_at.ensures if1.false) at (put_record 101 0 0 put-head.ensures put-slice.ensures refl)
+returns c = rw (opening c.comment_at-p.ensures (search rules)) at (put_record 101 0 0 c.put_record_head.ensures c.put_slice.ensures refl)

@@ -3,7 +3,4 @@ use Rattle.records.proofs.Laws.{put_record}
 use Rattle.records.proofs.put_plain.Goals as goal
 
 pub returns : goal.returns
-returns c =
-    let put-u16 = c.put_u16 in
-    let put-head = c.put_head-a in
-    put_record _ _ _ put-head.ensures put-u16.ensures (rw le_bytes-length)
+returns c = rw (← c.number.ensures) (put_record _ _ _ {n = 2} c.put_record_head.ensures c.put_u16.ensures (rw le_bytes-length))

@@ -1,8 +1,5 @@
-use Rattle.wire.proofs.Laws.{then}
+use Rattle.wire.proofs.Puts.{then}
 use Rattle.records.proofs.put_sized.Goals as goal
 
 pub returns : goal.returns
-returns c =
-    let put-slice = c.put_slice in
-    let put-u16 = c.put_u16-a in
-    then put-u16.ensures put-slice.ensures
+returns c = then c.put_u16.ensures c.put_slice.ensures

@@ -1,21 +1,12 @@
-use mathlib.Core.Path.{sym, ◌∙◌}
-use borrow.Author.Tests.{eq-eqb, ne_eqb}
 use Rattle.wire.specs.Pick.{pick}
+use Rattle.token.specs.declared.kind.Kind.TheVariants.{Asymmetric}
+use Rattle.token.proofs.Known.{not_kind}
 use Rattle.records.proofs.rule_at.Goals as goal
 
-pub returns-then-not-there : goal.returns-then-not-there
-returns-then-not-there c = rw c.if-not-there.true
-
-pub returns-then-kind_at-eq-ASYMMETRIC : goal.returns-then-kind_at-eq-ASYMMETRIC
+pub returns-in-Asymmetric : goal.returns-in-Asymmetric
 unfolding pick
-returns-then-kind_at-eq-ASYMMETRIC c =
-    let kind_at = c.kind_at in
-    let if1 = c.if-not-there in
-    rw (if1.false, eq-eqb _ _ (sym kind_at.ensures ∙ c.if-kind_at-eq-ASYMMETRIC.true))
+returns-in-Asymmetric c = rw (c.in-Some.is, ← c.in-Asymmetric.ensures)
 
-pub returns : goal.returns
+pub returns-in_default : goal.returns-in_default
 unfolding pick
-returns c =
-    let kind_at = c.kind_at in
-    let if1 = c.if-not-there in
-    rw (if1.false, ne_eqb _ _ (λ z. c.if-kind_at-eq-ASYMMETRIC.false (kind_at.ensures ∙ z)))
+returns-in_default c = rw (c.in-Some.is, ← c.kind_at.ensures, not_kind c.kind_at.result Asymmetric c.in_default.not-Asymmetric)

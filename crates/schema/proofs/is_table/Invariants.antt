@@ -1,11 +1,11 @@
-use Prim.Native.Nat.{◌-◌}
 use lib.ListN.{length}
+use Rattle.schema.specs.Kinds.{number_at}
 use Rattle.schema.specs.Table.{is_schema_table}
 use Rattle.schema.proofs.Judging.{Judging}
 use Rattle.schema.proofs.is_table.Given as goal
 
-abbrev pub invariant-loop-at : goal.invariant-loop-at
-invariant-loop-at l = Judging l.t l.at l.last l.kind l.row (is_schema_table l.t)
+abbrev pub invariant-loop-rest : goal.invariant-loop-rest
+invariant-loop-rest l = Judging l.rest (number_at l.before.0) l.before.1.0.now l.before.1.1.0 (is_schema_table l.t)
 
-abbrev pub decreases-loop-at : goal.decreases-loop-at
-decreases-loop-at l = length l.t - l.at
+abbrev pub decreases-loop-rest : goal.decreases-loop-rest
+decreases-loop-rest l = length l.rest

@@ -1,12 +1,16 @@
 -- `text::is_inferred` meets its contract.
-use Rattle.wire.proofs.Choice.{choice}
+use mathlib.Core.Path.{sym, ap, ◌∙◌}
+use mathlib.Core.Bool.{not}
+use Rattle.wire.proofs.Choice.{pick_yes, pick_no}
 use Rattle.text.specs.Text.{is_inferred}
 use Rattle.text.proofs.is_inferred.Goals as goal
 
-pub returns-then-inferred-eq0 : goal.returns-then-inferred-eq0
+pub returns-then-not-is_empty : goal.returns-then-not-is_empty
 unfolding is_inferred
-returns-then-inferred-eq0 c = rw (← c.stem-inferred.ensures) (search choice depth 12)
+returns-then-not-is_empty c =
+    rw (← c.stem-inferred.ensures) (pick_no _ _ _ _ (sym c.is_empty.ensures ∙ c.if-not-is_empty.true) c.same.ensures)
 
-pub returns : goal.returns
+pub returns-else-not-is_empty : goal.returns-else-not-is_empty
 unfolding is_inferred
-returns c = rw (← c.stem-inferred.ensures) (search choice depth 12)
+returns-else-not-is_empty c =
+    rw (← c.stem-inferred.ensures) (pick_yes _ _ _ _ (sym c.is_empty.ensures ∙ c.if-not-is_empty.false) (ap not c.if-not-is_empty.false))

@@ -5,8 +5,8 @@ use Rattle.text.proofs.put_blank.Goals as goal
 
 pub returns-then-b : goal.returns-then-b
 unfolding blank
-returns-then-b c = search chosen depth 12
+returns-then-b c = search chosen
 
-pub returns : goal.returns
+pub returns-else-b : goal.returns-else-b
 unfolding blank
-returns c = search chosen depth 12
+returns-else-b c = search chosen

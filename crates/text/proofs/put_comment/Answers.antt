@@ -1,31 +1,30 @@
--- `text::put_comment` meets its contract.
-use native.Mathlib.Omega.{arith}
-use Rattle.text.proofs.Comment.{commenting_begin, commenting_room, commenting_more, commenting_done}
+-- `text::put_comment` meets its contract: the paragraph that comes next lies whole in what is left.
+use Rattle.std.proofs.Common.{arith, length-drop}
+use Rattle.std.proofs.lemmas.List.{take_rest}
+use Rattle.text.proofs.Comment.{commenting_begin, commenting_page, commenting_more, commenting_done}
 use Rattle.text.proofs.put_comment.Goals as goal
 
-pub loop-i-init : goal.loop-i-init
-loop-i-init c = commenting_begin c.requires.1
+pub loop-rest-init : goal.loop-rest-init
+loop-rest-init c = commenting_begin _ c.requires
 
-pub u16_at-requires : goal.u16_at-requires
-u16_at-requires c = omega (arith, commenting_room c.loop-i.invariant c.loop-i-test.true)
+pub u16_at-size-requires : goal.u16_at-size-requires
+u16_at-size-requires c = (commenting_page c.loop-rest.invariant c.loop-rest-test.ensures).head
 
-pub slice_bounds-put_paragraph-end : goal.slice_bounds-put_paragraph-end
-slice_bounds-put_paragraph-end c =
-    omega (arith, commenting_room c.loop-i.invariant c.loop-i-test.true, c.u16_at.ensures)
+pub slice_bounds-split_at-count : goal.slice_bounds-split_at-count
+slice_bounds-split_at-count c = (commenting_page c.loop-rest.invariant c.loop-rest-test.ensures).head
 
-pub loop-i-smaller : goal.loop-i-smaller
-loop-i-smaller c =
-    let loop-test = c.loop-i-test in
-    omega (arith, loop-test.true)
+pub slice_bounds-split_at-start : goal.slice_bounds-split_at-start
+slice_bounds-split_at-start c = (commenting_page c.loop-rest.invariant c.loop-rest-test.ensures).head
 
-pub loop-i-preserved : goal.loop-i-preserved
-loop-i-preserved c =
-    let put-paragraph = c.put_paragraph-a in
-    let put-mark = c.put_mark-m in
-    let u16-at = c.u16_at in
-    let loop-test = c.loop-i-test in
-    let loop = c.loop-i in
-    commenting_more loop.invariant loop-test.true (omega (arith, u16-at.ensures)) put-mark.ensures put-paragraph.ensures
+pub split_at-requires : goal.split_at-requires
+split_at-requires c =
+    let p = commenting_page c.loop-rest.invariant c.loop-rest-test.ensures in
+    rw take_rest (omega (arith, p.tail, c.u16_at-size.ensures, length-drop 2 c.loop-rest.rest.now))
+
+pub loop-rest-preserved : goal.loop-rest-preserved
+loop-rest-preserved c =
+    commenting_more c.loop-rest.invariant c.loop-rest-test.ensures c.u16_at-size.ensures c.put_mark.ensures c.put_paragraph.ensures c.split_at.ensures.front
+    c.split_at.ensures.back
 
 pub returns : goal.returns
-returns c = commenting_done c.loop-i.invariant c.loop-i-test.false
+returns c = commenting_done c.loop-rest.invariant c.loop-rest-test.ensures

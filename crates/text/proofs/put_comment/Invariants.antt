@@ -1,11 +1,10 @@
 -- `text::put_comment` meets its contract.
-use Prim.Native.Nat.{◌-◌}
 use lib.ListN.{length}
 use Rattle.text.proofs.Comment.{Commenting}
 use Rattle.text.proofs.put_comment.Given as goal
 
-abbrev pub invariant-loop-i : goal.invariant-loop-i
-invariant-loop-i l = Commenting l.initial.out l.initial.a l.indentation l.ps l.out l.a l.i
+abbrev pub invariant-loop-rest : goal.invariant-loop-rest
+invariant-loop-rest l = Commenting l.initial.w l.indentation l.ps l.w l.rest
 
-abbrev pub decreases-loop-i : goal.decreases-loop-i
-decreases-loop-i l = length l.ps - l.i
+abbrev pub decreases-loop-rest : goal.decreases-loop-rest
+decreases-loop-rest l = length l.rest

@@ -1,17 +1,13 @@
 -- `text::put_counted` meets its contract.
 use Rattle.text.proofs.Comment.{no_comment}
-use Rattle.text.proofs.Parts.{tail_part}
+use Rattle.std.proofs.lemmas.List.{take_rest}
 use Rattle.text.proofs.put_counted.Goals as goal
 
-pub returns-then-p-eq2 : goal.returns-then-p-eq2
-returns-then-p-eq2 c =
-    let a = c.args in
-    no_comment a.indentation.now a.p.now c.if-p-eq2.true
-
 pub put_comment-requires : goal.put_comment-requires
-put_comment-requires c =
-    let pre = c.requires in
-    (pre.0, rw (tail_part _ 2) pre.2)
+put_comment-requires c = rw take_rest c.requires.1
 
-pub returns : goal.returns
-returns c = rw (tail_part _ 2) at c.put_comment.ensures
+pub returns-then-p-gt2 : goal.returns-then-p-gt2
+returns-then-p-gt2 c = rw take_rest at c.put_comment.ensures
+
+pub returns-else-p-gt2 : goal.returns-else-p-gt2
+returns-else-p-gt2 c = no_comment _ _ c.if-p-gt2.false

@@ -1,20 +1,28 @@
 -- `text::put_custom` meets its contract.
-use Rattle.wire.proofs.Laws.{then}
-use Rattle.text.proofs.Laws.{custom_none, custom_some}
+use Rattle.std.proofs.Common.{◌≡◌, ◌∙◌, sym, [], ◌∷◌, ◌++◌, length, refl, true, false, eqb, arith}
+use borrow.Author.Tests.{eqb-true}
+use Rattle.wire.specs.Bytes.{Bytes, bytes}
+use Rattle.wire.proofs.Puts.{then}
+use Rattle.schema.specs.Decode.{optional}
+use Rattle.identifier.specs.Forms.{snake_of, pascal_of}
+use Rattle.text.specs.Text.{custom_text}
+use Rattle.text.proofs.put_custom.Goals.{then-not-is_empty, else-not-is_empty}
 use Rattle.text.proofs.put_custom.Goals as goal
 
-pub returns-then-import-eq0 : goal.returns-then-import-eq0
-returns-then-import-eq0 c =
-    let put-pascal = c.put_pascal in
-    let if1 = c.if-import-eq0 in
-    let args = c.args in
-    custom_none args.import.now args.name.now if1.true put-pascal.ensures
+named : (import name : Bytes) → eqb (length import) 0 ≡ false → custom_text (optional import) name ≡ snake_of import ++ bytes "." ++ pascal_of name
+named [] name e = cc
+named (b ∷ import) name e = refl
+
+nameless : (import name : Bytes) → eqb (length import) 0 ≡ true → custom_text (optional import) name ≡ pascal_of name
+nameless [] name e = refl
+nameless (b ∷ import) name e = absurd (omega (arith, eqb-true _ _ e))
 
 pub returns : goal.returns
 returns c =
-    let put-pascal2 = c.put_pascal-2 in
-    let put_byte = c.put_byte-b in
-    let put-snake = c.put_snake-a in
-    let if1 = c.if-import-eq0 in
-    let args = c.args in
-    custom_some args.import.now args.name.now if1.false (then (then put-snake.ensures put_byte.ensures) put-pascal2.ensures)
+    elim c.if-not-is_empty.branch [
+      | then-not-is_empty w ↦
+          rw (named c.args.import.now c.args.name.now (sym c.is_empty.ensures ∙ w.if-not-is_empty.true))
+          (then (then w.put_snake.ensures w.put_byte.ensures) (rw w.w-is at c.put_pascal.ensures))
+      | else-not-is_empty w ↦
+          rw (nameless c.args.import.now c.args.name.now (sym c.is_empty.ensures ∙ w.if-not-is_empty.false)) (rw w.w-is at c.put_pascal.ensures)
+    ]

@@ -1,11 +1,13 @@
 -- `text::put_indices` meets its contract.
-use Prim.Native.Nat.{◌-◌}
-use lib.ListN.{length}
-use Rattle.text.proofs.Indices.{Listing}
+use mathlib.Core.Path.{◌≡◌}
+use mathlib.Core.List.{flat_map}
+use Rattle.wire.proofs.Puts.{Rest}
+use Rattle.schema.specs.Payload.{indices_of}
+use Rattle.text.specs.Text.{index_text}
 use Rattle.text.proofs.put_indices.Given as goal
 
-abbrev pub invariant-loop-i : goal.invariant-loop-i
-invariant-loop-i l = Listing l.initial.out l.initial.a l.p l.out l.a l.i
-
-abbrev pub decreases-loop-i : goal.decreases-loop-i
-decreases-loop-i l = length l.p - l.i
+abbrev pub invariant-loop-index : goal.invariant-loop-index
+invariant-loop-index l = record {
+  size : l.index-iterator.size ≡ 8;
+  left : Rest l.w (flat_map index_text (indices_of l.index-iterator.rest.now)) l.initial.w (flat_map index_text (indices_of l.p));
+}

@@ -1,12 +1,13 @@
 -- `text::put_keyword` meets its contract.
 use Rattle.wire.specs.Pick.{pick}
-use Rattle.text.proofs.Laws.{chosen}
+use Rattle.schema.specs.declared.kind.Kind.TheVariants.{Struct}
+use Rattle.schema.proofs.Known.{not_kind}
 use Rattle.text.proofs.put_keyword.Goals as goal
 
-pub returns-then-kind-eq-STRUCT : goal.returns-then-kind-eq-STRUCT
+pub returns-in-Struct : goal.returns-in-Struct
 unfolding pick
-returns-then-kind-eq-STRUCT c = search chosen depth 12
+returns-in-Struct c = rw c.in-Struct.is c.put_slice.ensures
 
-pub returns : goal.returns
+pub returns-in_default : goal.returns-in_default
 unfolding pick
-returns c = search chosen depth 12
+returns-in_default c = rw (not_kind c.args.kind Struct c.in_default.not-Struct) c.put_slice-in_default.ensures

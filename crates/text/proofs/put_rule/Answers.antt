@@ -3,14 +3,14 @@ use Rattle.wire.specs.Pick.{pick}
 use Rattle.text.proofs.Laws.{chosen}
 use Rattle.text.proofs.put_rule.Goals as goal
 
-pub returns-then-rule-eq0 : goal.returns-then-rule-eq0
+pub returns-in-0 : goal.returns-in-0
 unfolding pick
-returns-then-rule-eq0 c = search chosen depth 12
+returns-in-0 c = search chosen
 
-pub returns-then-rule-eq1 : goal.returns-then-rule-eq1
+pub returns-in-1 : goal.returns-in-1
 unfolding pick
-returns-then-rule-eq1 c = search chosen depth 12
+returns-in-1 c = rw c.in-1.is c.put_slice.ensures
 
-pub returns : goal.returns
+pub returns-in_default : goal.returns-in_default
 unfolding pick
-returns c = search chosen depth 12
+returns-in_default c = search chosen

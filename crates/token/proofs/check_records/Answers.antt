@@ -1,79 +1,52 @@
-use mathlib.Core.Path.{◌≡◌}
-use native.Mathlib.Omega.{arith}
-use lib.ListN.{drop}
-use Rattle.token.specs.Table.{token_of, fault_of}
-use Rattle.token.proofs.Laws.{part_from}
-use Rattle.token.proofs.Records.{checking, checked_end, checked_full, checked_bad, checked_good, checked_next}
-use Rattle.token.proofs.check_records.Goals.{After-fault-number}
+-- Record by record, from what is left of the table to what is left of it then.
+use Prim.Native.Nat.{◌-◌, ◌<◌}
+use mathlib.Core.Path.{◌≡◌, refl}
+use lib.ListN.{length, drop}
+use Rattle.std.proofs.Common.{rules}
+use Rattle.std.specs.Prelude.{Err}
+use Rattle.wire.specs.Refusal.{number_of}
+use Rattle.wire.proofs.Refusals.{number_some}
+use Rattle.token.specs.Table.{size_of, token_of, fault_of}
+use Rattle.token.specs.Checked.{Passed}
+use Rattle.token.proofs.Records.{checking, checked_end, checked_full, checked_bad, checked_less, checked_next}
 use Rattle.token.proofs.check_records.Goals as goal
 
-fault-at : (c : After-fault-number) →
-    let loop = c.loop-at in
-    let args = c.args in
-    c.fault-number.result ≡ fault_of loop.last loop.row (drop loop.at args.t.now)
-fault-at c = rw (part_from) at c.fault-number.ensures
-
-pub loop-at-init : goal.loop-at-init
-loop-at-init c = checking _ c.requires.1
+pub loop-rest-init : goal.loop-rest-init
+loop-rest-init c = checking _ c.requires
 
 pub returns-then-count-eq4096 : goal.returns-then-count-eq4096
-returns-then-count-eq4096 c = checked_full c.loop-at.invariant c.loop-at-test.true c.if-count-eq4096.true
+returns-then-count-eq4096 c =
+    let z : 0 < length c.loop-rest.rest.now = search rules in
+    checked_full c.loop-rest.invariant z c.if-count-eq4096.true
 
-pub fault-number-requires : goal.fault-number-requires
-fault-number-requires c =
-    let loop = c.loop-at in
-    let pre = c.requires in
-    (pre.0, loop.invariant.shallow)
+pub invariant_of-before : goal.invariant_of-before
+invariant_of-before c = record { shallow = c.loop-rest.invariant.shallow }
 
-pub returns-then-number-ne0 : goal.returns-then-number-ne0
-returns-then-number-ne0 c =
-    let loop-test = c.loop-at-test in
-    let loop = c.loop-at in
-    checked_bad loop.invariant loop-test.true c.if-count-eq4096.false (fault-at (goal.at.returns-then-number-ne0 c).After-fault-number) c.if-number-ne0.true
+pub returns-in_err-before : goal.returns-in_err-before
+returns-in_err-before c =
+    let z : 0 < length c.loop-rest.rest.now = search rules in
+    let n : number_of c.in_err-before.field-0.0.refusal ≡ fault_of c.loop-rest.before.0 c.loop-rest.before.1.0 c.loop-rest.rest.now = search rules in
+    let o : c.in_err-before.field-0.0.offset ≡ length c.args.t.now - length c.loop-rest.rest.now = search rules in
+    let e : c.from_residual.result ≡ Err c.in_err-before.field-0.0 = search rules in
+    rw (e, o) (checked_bad c.loop-rest.invariant z c.if-count-eq4096.false n (number_some c.in_err-before.field-0.0.refusal))
 
-pub u32_at-last-requires : goal.u32_at-last-requires
-u32_at-last-requires c =
-    let l = c.loop-at in
-    let good =
-    checked_good l.invariant c.loop-at-test.true c.if-count-eq4096.false (fault-at (goal.at.u32_at-last-requires c).After-fault-number)
-    c.if-number-ne0.false in
-    rw part_from (omega (arith, good.fits))
+pub loop-rest-smaller : goal.loop-rest-smaller
+loop-rest-smaller c =
+    let l = c.loop-rest in
+    let z : 0 < length l.rest.now = search rules in
+    let f : fault_of l.before.0 l.before.1.0 l.rest.now ≡ 0 = search rules in
+    let r : c.in_ok-before.field-0-1.now ≡ drop (size_of l.rest.now) l.rest.now = search rules in
+    rw r (checked_less l.invariant z c.if-count-eq4096.false refl f)
 
-pub u16_at-requires : goal.u16_at-requires
-u16_at-requires c =
-    let l = c.loop-at in
-    let good =
-    checked_good l.invariant c.loop-at-test.true c.if-count-eq4096.false (fault-at (goal.at.u16_at-requires c).After-fault-number)
-    c.if-number-ne0.false in
-    rw part_from (omega (arith, good.fits))
-
-pub u16_at-requires-in-loop-at : goal.u16_at-requires-in-loop-at
-u16_at-requires-in-loop-at c =
-    let l = c.loop-at in
-    let good =
-    checked_good l.invariant c.loop-at-test.true c.if-count-eq4096.false (fault-at (goal.at.u16_at-requires-in-loop-at c).After-fault-number)
-    c.if-number-ne0.false in
-    rw part_from (omega (arith, good.fits))
-
-pub loop-at-smaller : goal.loop-at-smaller
-loop-at-smaller c =
-    let l = c.loop-at in
-    let good =
-    checked_good l.invariant c.loop-at-test.true c.if-count-eq4096.false (fault-at (goal.at.loop-at-smaller c).After-fault-number)
-    c.if-number-ne0.false in
-    omega (arith, good.fits, rw part_from at c.u16_at-in-loop-at.ensures)
-
-pub loop-at-preserved : goal.loop-at-preserved
-unfolding token_of
-loop-at-preserved c =
-    let row-after = c.row_after-row in
-    let u16-at = c.u16_at in
-    let u32-at = c.u32_at-last in
-    let if2 = c.if-number-ne0 in
-    let loop-test = c.loop-at-test in
-    let loop = c.loop-at in
-    rw (c.u16_at-in-loop-at.ensures, u32-at.ensures, row-after.ensures, u16-at.ensures, part_from)
-    (checked_next loop.invariant loop-test.true c.if-count-eq4096.false (fault-at (goal.at.loop-at-preserved c).After-fault-number) if2.false)
+pub loop-rest-preserved : goal.loop-rest-preserved
+loop-rest-preserved c =
+    let l = c.loop-rest in
+    let z : 0 < length l.rest.now = search rules in
+    let f : fault_of l.before.0 l.before.1.0 l.rest.now ≡ 0 = search rules in
+    let r : c.in_ok-before.field-0-1.now ≡ drop (size_of l.rest.now) l.rest.now = search rules in
+    let o = c.in_ok-before.field-0-0 in
+    let p : Passed l.before.1.0 (token_of l.rest.now) o.end o.row = search rules in
+    rw (r, p.ends, p.squares) (checked_next l.invariant z c.if-count-eq4096.false refl f)
 
 pub returns : goal.returns
-returns c = checked_end c.loop-at.invariant c.loop-at-test.false
+returns c = let z : length c.loop-rest.rest.now ≡ 0 = search rules in checked_end c.loop-rest.invariant z

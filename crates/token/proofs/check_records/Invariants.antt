@@ -1,11 +1,10 @@
-use Prim.Native.Nat.{◌-◌}
 use lib.ListN.{length}
 use Rattle.token.specs.Checked.{checked}
 use Rattle.token.proofs.Records.{Checking}
 use Rattle.token.proofs.check_records.Given as goal
 
-abbrev pub invariant-loop-at : goal.invariant-loop-at
-invariant-loop-at l = Checking l.t l.at l.count l.last l.row (checked l.t)
+abbrev pub invariant-loop-rest : goal.invariant-loop-rest
+invariant-loop-rest l = Checking (length l.t) l.rest l.count l.before.0 l.before.1.0 (checked l.t)
 
-abbrev pub decreases-loop-at : goal.decreases-loop-at
-decreases-loop-at l = length l.t - l.at
+abbrev pub decreases-loop-rest : goal.decreases-loop-rest
+decreases-loop-rest l = length l.rest

@@ -1,15 +1,19 @@
+-- Paragraph by paragraph, of which there are at most 32.
 use native.Mathlib.Omega.{arith}
-use Rattle.token.proofs.Paragraphs.{counting, counted_all, counted_inside, counted_next}
+use Rattle.token.proofs.Paragraphs.{counting, counted_all, counted_few, counted_next, counted_less}
 use Rattle.token.proofs.paragraph_count.Goals as goal
 
-pub loop-at-init : goal.loop-at-init
-loop-at-init c = counting _ c.requires
+pub loop-after-init : goal.loop-after-init
+loop-after-init c = counting _ c.requires
 
-pub u16_at-requires : goal.u16_at-requires
-u16_at-requires c = omega (arith, counted_inside c.loop-at.invariant c.loop-at-test.true)
+pub overflow_add-count : goal.overflow_add-count
+overflow_add-count c = let f = counted_few c.loop-after.invariant c.in-Some.ensures in omega arith
 
-pub loop-at-preserved : goal.loop-at-preserved
-loop-at-preserved c = rw c.u16_at.ensures (counted_next c.loop-at.invariant c.loop-at-test.true)
+pub loop-after-smaller : goal.loop-after-smaller
+loop-after-smaller c = counted_less c.loop-after.invariant c.in-Some.ensures
+
+pub loop-after-preserved : goal.loop-after-preserved
+loop-after-preserved c = counted_next c.loop-after.invariant c.in-Some.ensures
 
 pub returns : goal.returns
-returns c = counted_all c.loop-at.invariant c.loop-at-test.false
+returns c = counted_all c.loop-after.invariant c.in_default.ensures

@@ -1,10 +1,9 @@
-use Prim.Native.Nat.{◌-◌}
 use lib.ListN.{length}
 use Rattle.token.proofs.Paragraphs.{Counting}
 use Rattle.token.proofs.paragraph_count.Given as goal
 
-abbrev pub invariant-loop-at : goal.invariant-loop-at
-invariant-loop-at l = Counting l.p l.count l.at
+abbrev pub invariant-loop-after : goal.invariant-loop-after
+invariant-loop-after l = Counting l.p l.count l.rest
 
-abbrev pub decreases-loop-at : goal.decreases-loop-at
-decreases-loop-at l = length l.p - l.at
+abbrev pub decreases-loop-after : goal.decreases-loop-after
+decreases-loop-after l = length l.rest

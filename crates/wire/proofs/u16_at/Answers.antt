@@ -1,10 +1,6 @@
--- `wire::u16_at` meets its contract.
-use native.Mathlib.Omega.{arith}
+use Rattle.std.proofs.Common.{arith}
 use Rattle.wire.proofs.Numbers.{u16_bytes}
 use Rattle.wire.proofs.u16_at.Goals as goal
 
 pub returns : goal.returns
-returns c =
-    let args = c.args in
-    let pre = c.requires in
-    omega (arith, u16_bytes args.s.now args.at pre)
+returns c = omega (arith, c.from_le_bytes.ensures, u16_bytes c.args.s.now c.args.at c.requires)

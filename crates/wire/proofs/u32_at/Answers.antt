@@ -1,9 +1,6 @@
--- `wire::u32_at` meets its contract.
-use native.Mathlib.Omega.{arith}
+use Rattle.std.proofs.Common.{arith}
 use Rattle.wire.proofs.Numbers.{le_at_halves}
 use Rattle.wire.proofs.u32_at.Goals as goal
 
 pub returns : goal.returns
-returns c =
-    let a = c.args in
-    omega (arith, le_at_halves 2 2 a.s.now a.at (omega arith))
+returns c = omega (arith, le_at_halves 2 2 c.args.s.now c.args.at (omega arith))

@@ -1,31 +1,33 @@
 -- `writer::is_unit` meets its contract.
-use native.Mathlib.Omega.{arith}
-use mathlib.Core.Path.{sym, ◌∙◌}
+use Rattle.std.proofs.Common.{◌≡◌, refl, ◌∙◌, eqb}
 use borrow.Author.Tests.{eq-eqb, ne_eqb}
-use Rattle.text.proofs.Parts.{plain_size}
+use denote.Enum.Bare.{sameb}
+use Rattle.token.specs.Kinds.{number_of}
+use Rattle.token.specs.declared.kind.Kind.{Kind}
+use Rattle.token.specs.declared.kind.Kind.TheVariants.{Unit}
+use Rattle.token.specs.contracts.kind.Kind.{the_type}
+use Rattle.schema.specs.declared.kind.Kind.TheVariants.{Plain}
+use Rattle.schema.proofs.Known.{same, differs}
 use Rattle.writer.proofs.Types.{type_record, unit_at, plain_at}
 use Rattle.writer.proofs.is_unit.Goals as goal
 
+unit_is : (k : Kind) → sameb the_type k Unit ≡ eqb (number_of k) 25
+unit_is Unit = refl
+unit_is _ = refl
+
 pub kind_at-requires : goal.kind_at-requires
-kind_at-requires c = omega (arith, (type_record c.requires).whole)
+kind_at-requires c = let r = type_record c.requires in (r.whole, r.right)
 
 pub payload_at-requires : goal.payload_at-requires
 payload_at-requires c = (type_record c.requires).whole
 
-pub u16_at-requires : goal.u16_at-requires
-u16_at-requires c =
-    let if1 = c.if-kind_at-eq-PLAIN in
-    let kind_at = c.kind_at in
-    let pre = c.requires in
-    rw c.payload_at.ensures (omega (arith, plain_size _ (plain_at pre (sym kind_at.ensures ∙ if1.true))))
+pub plain_kind-requires : goal.plain_kind-requires
+plain_kind-requires c = rw c.payload_at.ensures (plain_at c.requires (same _ Plain c.kind_at.ensures c.if-eq.ensures))
 
-pub returns-then-kind_at-eq-PLAIN : goal.returns-then-kind_at-eq-PLAIN
-returns-then-kind_at-eq-PLAIN c =
-    let payload-at = c.payload_at in
-    let if1 = c.if-kind_at-eq-PLAIN in
-    let kind_at = c.kind_at in
-    let pre = c.requires in
-    rw (unit_at pre, ← kind_at.ensures, eq-eqb _ _ if1.true, c.u16_at.ensures, payload-at.ensures)
+pub returns-then-eq : goal.returns-then-eq
+returns-then-eq c =
+    rw (unit_at c.requires, eq-eqb _ _ (same _ Plain c.kind_at.ensures c.if-eq.ensures), ← c.payload_at.ensures, ← c.plain_kind.ensures)
+    (c.eq-then-eq.ensures ∙ unit_is c.plain_kind.result)
 
-pub returns : goal.returns
-returns c = rw (unit_at c.requires, ← c.kind_at.ensures, ne_eqb _ _ c.if-kind_at-eq-PLAIN.false)
+pub returns-else-eq : goal.returns-else-eq
+returns-else-eq c = rw (unit_at c.requires, ne_eqb _ _ (differs _ Plain c.kind_at.ensures c.if-eq.ensures)) c.if-eq.false

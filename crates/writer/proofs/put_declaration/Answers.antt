@@ -1,42 +1,29 @@
 -- `writer::put_declaration` meets its contract.
-use native.Mathlib.Omega.{arith}
+use Rattle.std.proofs.Common.{arith}
+use Rattle.schema.proofs.Walk.{record_at}
 use Rattle.writer.proofs.Declarations.{head_at_lem, declared}
 use Rattle.writer.proofs.put_declaration.Goals as goal
 
-pub next_at-next-requires : goal.next_at-next-requires
-next_at-next-requires c = let w = (head_at_lem c.requires.0 c.requires.1).whole in (omega (arith, w), w.tail)
+pub next_at-first-requires : goal.next_at-first-requires
+next_at-first-requires c = let w = (head_at_lem c.requires.0 c.requires.1).whole in (omega (arith, w), w.tail)
 
 pub kind_at-requires : goal.kind_at-requires
-kind_at-requires c = omega (arith, (head_at_lem c.requires.0 c.requires.1).whole)
+kind_at-requires c = let r = record_at c.requires.0.stands c.requires.1 in (r.whole, r.right)
 
 pub payload_at-requires : goal.payload_at-requires
-payload_at-requires c =
-    let pre = c.requires in
-    (head_at_lem pre.0 pre.1).whole
+payload_at-requires c = (head_at_lem c.requires.0 c.requires.1).whole
 
-pub put_head-a-requires : goal.put_head-a-requires
-put_head-a-requires c =
-    let pre = c.requires in
-    rw c.payload_at.ensures (head_at_lem pre.0 pre.1).right
+pub put_head-requires : goal.put_head-requires
+put_head-requires c = rw c.payload_at.ensures (head_at_lem c.requires.0 c.requires.1).right
 
-pub put_fields-w-requires : goal.put_fields-w-requires
-put_fields-w-requires c =
-    let next-at = c.next_at-next in
-    let pre = c.requires in
-    rw next-at.ensures (head_at_lem pre.0 pre.1).inside
+pub put_fields-end-requires : goal.put_fields-end-requires
+put_fields-end-requires c = rw c.next_at-first.ensures (head_at_lem c.requires.0 c.requires.1).inside
 
 pub put_end-requires : goal.put_end-requires
-put_end-requires c = c.put_fields-w.ensures.fielded
+put_end-requires c = c.put_fields-end.ensures.fielded
 
 pub returns : goal.returns
 returns c =
-    let put-end = c.put_end in
-    let put-fields = c.put_fields-w in
-    let put-head = c.put_head-a in
-    let payload-at = c.payload_at in
-    let kind_at = c.kind_at in
-    let next-at = c.next_at-next in
-    let pre = c.requires in
-    let n = next-at.ensures in
-    declared (head_at_lem pre.0 pre.1) (rw (kind_at.ensures, payload-at.ensures) at put-head.ensures) (rw n at put-fields.ensures)
-    (rw n at put-end.ensures)
+    let n = c.next_at-first.ensures in
+    declared (head_at_lem c.requires.0 c.requires.1) (rw (c.kind_at.ensures, c.payload_at.ensures) at c.put_head.ensures) (rw n at c.put_fields-end.ensures)
+    (rw n at c.put_end.ensures)

@@ -1,50 +1,44 @@
 -- `writer::put_end` meets its contract.
-use native.Mathlib.Omega.{arith}
-use mathlib.Core.Path.{sym, ◌∙◌}
+use Rattle.std.proofs.Common.{arith}
 use borrow.Author.Tests.{ne_eqb}
+use Rattle.schema.specs.declared.kind.Kind.TheVariants.{Deleted}
+use Rattle.schema.proofs.Known.{same, differs}
 use Rattle.schema.proofs.Walk.{record_at}
 use Rattle.writer.proofs.Declarations.{DeletedAt, deleted_at, ended_deleted, ended_end, ended_other}
-use Rattle.writer.proofs.put_end.Goals.{Then-kind_at-eq-DELETED, then-at-t+else-kind_at-eq-DELETED, else-at-t}
+use Rattle.writer.proofs.put_end.Goals.{Then-eq, then-at-t+then-eq, else-at-t}
+use Rattle.writer.proofs.put_end.Goals.{else-at-t-via-then-at-t+else-eq, else-at-t-via-else-at-t}
 use Rattle.writer.proofs.put_end.Goals as goal
 
 -- the deleted record
-here : (c : Then-kind_at-eq-DELETED) →
-    let args = c.args in
-    DeletedAt args.t.now args.at
-here c =
-    let kind_at = c.kind_at in
-    let if1 = c.if-at-t in
-    let pre = c.requires in
-    deleted_at pre if1.true (sym kind_at.ensures ∙ c.if-kind_at-eq-DELETED.true)
+here : (c : Then-eq) → DeletedAt c.args.t.now c.args.at
+here c = deleted_at c.requires c.if-at-t.true (same _ Deleted c.kind_at.ensures c.if-eq.ensures)
 
 pub kind_at-requires : goal.kind_at-requires
-kind_at-requires c = omega (arith, (record_at c.requires.stands c.if-at-t.true).whole)
+kind_at-requires c = let r = (record_at c.requires.stands c.if-at-t.true) in (r.whole, r.right)
 
 pub payload_at-requires : goal.payload_at-requires
-payload_at-requires c = (here (goal.at.payload_at-requires c).Then-kind_at-eq-DELETED).whole
+payload_at-requires c = (here (goal.at.payload_at-requires c).Then-eq).whole
 
-pub put_deleted-a-requires : goal.put_deleted-a-requires
-put_deleted-a-requires c = rw c.payload_at.ensures (here (goal.at.put_deleted-a-requires c).Then-kind_at-eq-DELETED).right
+pub put_deleted-requires : goal.put_deleted-requires
+put_deleted-requires c = rw c.payload_at.ensures (here (goal.at.put_deleted-requires c).Then-eq).right
 
 pub next_at-next-requires : goal.next_at-next-requires
 next_at-next-requires c =
-    let w = (here (goal.at.next_at-next-requires c).Then-kind_at-eq-DELETED).whole in
+    let w = (here (goal.at.next_at-next-requires c).Then-eq).whole in
     (omega (arith, w), w.tail)
-
-pub returns-then-kind_at-eq-DELETED : goal.returns-then-kind_at-eq-DELETED
-returns-then-kind_at-eq-DELETED c =
-    let at = goal.at.returns-then-kind_at-eq-DELETED c in
-    let put-slice = c.put_slice-b in
-    let put-deleted = c.put_deleted-a in
-    let payload-at = c.payload_at in
-    ended_deleted (here at.Then-kind_at-eq-DELETED) c.next_at-next.ensures (rw payload-at.ensures at put-deleted.ensures) put-slice.ensures
 
 pub returns : goal.returns
 returns c =
-    let pre = c.requires in
-    let w = c.put_slice-b-2.ensures in
     elim c.if-at-t.branch [
-      | then-at-t+else-kind_at-eq-DELETED d ↦
-          ended_other pre d.if-at-t.true (ne_eqb _ _ (λ e. d.if-kind_at-eq-DELETED.false (d.kind_at.ensures ∙ e))) w
-      | else-at-t d ↦ ended_end pre d.if-at-t.false w
+      | then-at-t+then-eq d ↦
+          rw d.next-is
+          (ended_deleted (deleted_at c.requires d.if-at-t.true (same _ Deleted d.kind_at.ensures d.if-eq.ensures)) d.next_at-next.ensures
+          (rw d.payload_at.ensures at d.put_deleted.ensures) (rw d.w-is at c.put_slice.ensures))
+      | else-at-t d ↦
+          rw d.next-is
+          (elim d.else-at-t.branch [
+            | else-at-t-via-then-at-t+else-eq e ↦
+                ended_other c.requires e.if-at-t.true (ne_eqb _ _ (differs _ Deleted e.kind_at.ensures e.if-eq.ensures)) (rw d.w-is at c.put_slice.ensures)
+            | else-at-t-via-else-at-t e ↦ ended_end c.requires e.if-at-t.false (rw d.w-is at c.put_slice.ensures)
+          ])
     ]

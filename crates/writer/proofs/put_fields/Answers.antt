@@ -1,95 +1,75 @@
 -- `writer::put_fields` meets its contract.
-use native.Mathlib.Omega.{arith}
-use mathlib.Core.Path.{refl, sym, ◌∙◌}
-use borrow.Author.Tests.{ne_eqb}
+use Rattle.std.proofs.Common.{refl, not, ◌&&◌, ◌||◌, eqb, arith}
+use Rattle.wire.specs.Puts.{Puts}
+use Rattle.text.specs.Text.{blank}
+use borrow.Author.Tests.{eq-eqb, ne_eqb}
 use Rattle.schema.specs.Walk.{next_at}
+use Rattle.schema.specs.declared.kind.Kind.TheVariants.{Field}
+use Rattle.schema.proofs.Known.{same, differs}
 use Rattle.schema.proofs.Walk.{record_at}
 use Rattle.writer.proofs.Types.{Typed, typed}
 use Rattle.writer.proofs.Fields.{fielding_begin, fielding_more, fielding_end, fielding_other, FieldAt, field_at, nested_at}
-use Rattle.writer.proofs.put_fields.Goals.{Else-kind_at-ne-FIELD, After-innermost-inner}
+use Rattle.writer.proofs.put_fields.Goals.{Then-eq, After-innermost-inner, After-put_blank}
+use Rattle.writer.proofs.put_fields.Goals.{then-at-from+then-commented, then-at-from+else-commented, else-at-from}
 use Rattle.writer.proofs.put_fields.Goals as goal
 
 -- the field at the loop's place, and its type inside the arrays
-here : (c : Else-kind_at-ne-FIELD) →
-    let loop = c.loop-at in
-    let args = c.args in
-    FieldAt args.t.now loop.at
-here c = field_at c.loop-at.invariant.stands c.loop-at-test.true (sym c.kind_at.ensures ∙ c.if-kind_at-ne-FIELD.false)
+here : (c : Then-eq) → FieldAt c.args.t.now c.loop-at.at
+here c = field_at c.loop-at.invariant.stands c.loop-at-test.true (same _ Field c.kind_at.ensures c.if-eq.ensures)
 
-inside : (c : After-innermost-inner) →
-    let loop = c.loop-at in
-    let args = c.args in
-    Typed args.t.now (next_at args.t.now loop.at) c.innermost-inner.result
-inside c = typed _ (here (goal.at-After-innermost-inner c).Else-kind_at-ne-FIELD).type refl (rw c.next_at-next.ensures at c.innermost-inner.ensures)
+inside : (c : After-innermost-inner) → Typed c.args.t.now (next_at c.args.t.now c.loop-at.at) c.innermost-inner.result
+inside c = typed _ (here (goal.at-After-innermost-inner c).Then-eq).type refl (rw c.next_at-next.ensures at c.innermost-inner.ensures)
+
+blank_line : (c : After-put_blank) → Puts c.loop-at.w (blank (not (eqb c.loop-at.at c.args.from) && (c.loop-at.commented || c.has_comment-has.result))) c.put_blank.new.w
+blank_line c =
+    elim c.if-at-from.branch [
+      | then-at-from+then-commented b ↦ rw (ne_eqb _ _ b.if-at-from.true, b.if-commented.true) (rw (b.put_blank-is, b.if-commented.true) at c.put_blank.ensures)
+      | then-at-from+else-commented b ↦ rw (ne_eqb _ _ b.if-at-from.true, b.if-commented.false) (rw b.put_blank-is at c.put_blank.ensures)
+      | else-at-from b ↦ let e = eq-eqb _ _ b.if-at-from.false in rw e (rw (b.put_blank-is, e) at c.put_blank.ensures)
+    ]
 
 pub loop-at-init : goal.loop-at-init
 loop-at-init c = fielding_begin c.requires
 
 pub kind_at-requires : goal.kind_at-requires
-kind_at-requires c = omega (arith, (record_at c.loop-at.invariant.stands c.loop-at-test.true).whole)
-
-pub returns-then-kind_at-ne-FIELD : goal.returns-then-kind_at-ne-FIELD
-returns-then-kind_at-ne-FIELD c =
-    let kind_at = c.kind_at in
-    let loop-test = c.loop-at-test in
-    let loop = c.loop-at in
-    fielding_other loop.invariant loop-test.true (ne_eqb _ _ (λ e. c.if-kind_at-ne-FIELD.true (kind_at.ensures ∙ e)))
+kind_at-requires c = let r = (record_at c.loop-at.invariant.stands c.loop-at-test.true) in (r.whole, r.right)
 
 pub next_at-next-requires : goal.next_at-next-requires
-next_at-next-requires c = let w = (here (goal.at.next_at-next-requires c).Else-kind_at-ne-FIELD).whole in (omega (arith, w), w.tail)
+next_at-next-requires c = let w = (here (goal.at.next_at-next-requires c).Then-eq).whole in (omega (arith, w), w.tail)
 
 pub innermost-inner-requires : goal.innermost-inner-requires
-innermost-inner-requires c = rw c.next_at-next.ensures (here (goal.at.innermost-inner-requires c).Else-kind_at-ne-FIELD).type
+innermost-inner-requires c = rw c.next_at-next.ensures (here (goal.at.innermost-inner-requires c).Then-eq).type
 
 pub payload_at-p-requires : goal.payload_at-p-requires
-payload_at-p-requires c = (here (goal.at.payload_at-p-requires c).Else-kind_at-ne-FIELD).whole
+payload_at-p-requires c = (here (goal.at.payload_at-p-requires c).Then-eq).whole
 
 pub has_comment-has-requires : goal.has_comment-has-requires
-has_comment-has-requires c = rw c.payload_at-p.ensures (here (goal.at.has_comment-has-requires c).Else-kind_at-ne-FIELD).right
+has_comment-has-requires c = rw c.payload_at-p.ensures (here (goal.at.has_comment-has-requires c).Then-eq).right
+
+pub put_field-requires : goal.put_field-requires
+put_field-requires c =
+    let f = here (goal.at.put_field-requires c).Then-eq in
+    (rw c.payload_at-p.ensures f.right, nested_at f c.next_at-next.ensures c.innermost-inner.ensures)
 
 pub next_at-at-requires : goal.next_at-at-requires
-next_at-at-requires c =
-    let w = (inside (goal.at.next_at-at-requires c).After-innermost-inner).whole in
-    (omega (arith, w), w.tail)
-
-pub overflow_sub-inner : goal.overflow_sub-inner
-overflow_sub-inner c =
-    let innermost = c.innermost-inner in
-    omega (arith, innermost.ensures)
-
-pub put_field-a-requires : goal.put_field-a-requires
-put_field-a-requires c =
-    let payload-at = c.payload_at-p in
-    let innermost = c.innermost-inner in
-    let next-at = c.next_at-next in
-    let f = here (goal.at.put_field-a-requires c).Else-kind_at-ne-FIELD in
-    (rw payload-at.ensures f.right, nested_at f next-at.ensures innermost.ensures)
+next_at-at-requires c = let w = (inside (goal.at.next_at-at-requires c).After-innermost-inner).whole in (omega (arith, w), w.tail)
 
 pub loop-at-smaller : goal.loop-at-smaller
 loop-at-smaller c =
     let at = goal.at.loop-at-smaller c in
-    let next-at2 = c.next_at-at in
-    let innermost = c.innermost-inner in
-    let next-at = c.next_at-next in
-    omega (arith, (here at.Else-kind_at-ne-FIELD).whole, (inside at.After-innermost-inner).whole, next-at2.ensures, innermost.ensures, next-at.ensures)
+    omega (arith, (here at.Then-eq).whole, (inside at.After-innermost-inner).whole, c.next_at-at.ensures, c.innermost-inner.ensures, c.next_at-next.ensures)
 
 pub loop-at-preserved : goal.loop-at-preserved
 loop-at-preserved c =
-    let put-field = c.put_field-a in
-    let next-at2 = c.next_at-at in
-    let put-blank = c.put_blank-b in
-    let has-comment = c.has_comment-has in
-    let payload-at = c.payload_at-p in
-    let innermost = c.innermost-inner in
-    let next-at = c.next_at-next in
-    let if1 = c.if-kind_at-ne-FIELD in
-    let kind_at = c.kind_at in
-    let loop-test = c.loop-at-test in
-    let loop = c.loop-at in
-    let n = next-at.ensures in
-    let p = payload-at.ensures in
-    fielding_more loop.invariant loop-test.true (sym kind_at.ensures ∙ if1.false) (rw n at innermost.ensures) next-at2.ensures
-    (rw p at has-comment.ensures) put-blank.ensures (rw (p, n) at put-field.ensures)
+    let n = c.next_at-next.ensures in
+    let p = c.payload_at-p.ensures in
+    fielding_more c.loop-at.invariant c.loop-at-test.true (same _ Field c.kind_at.ensures c.if-eq.ensures) (rw n at c.innermost-inner.ensures)
+    c.next_at-at.ensures (rw p at c.has_comment-has.ensures)
+    (blank_line (goal.at.loop-at-preserved c).After-put_blank) (rw (p, n) at c.put_field.ensures)
 
-pub returns : goal.returns
-returns c = fielding_end c.loop-at.invariant c.loop-at-test.false
+pub returns-else-eq : goal.returns-else-eq
+returns-else-eq c =
+    fielding_other c.loop-at.invariant c.loop-at-test.true (ne_eqb _ _ (differs _ Field c.kind_at.ensures c.if-eq.ensures))
+
+pub returns-after-loop-at : goal.returns-after-loop-at
+returns-after-loop-at c = fielding_end c.loop-at.invariant c.loop-at-test.false

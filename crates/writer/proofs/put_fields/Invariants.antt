@@ -5,7 +5,7 @@ use Rattle.writer.proofs.Fields.{Fielding}
 use Rattle.writer.proofs.put_fields.Given as goal
 
 abbrev pub invariant-loop-at : goal.invariant-loop-at
-invariant-loop-at l = Fielding l.t l.from l.initial.out l.to l.out l.a l.at l.commented
+invariant-loop-at l = Fielding l.t l.from l.initial.w l.w l.at l.commented
 
 abbrev pub decreases-loop-at : goal.decreases-loop-at
 decreases-loop-at l = length l.t - l.at

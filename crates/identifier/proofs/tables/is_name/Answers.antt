@@ -1,22 +1,19 @@
--- `identifier::tables::is_name`: the loop has seen printable bytes (`Good`).
-use mathlib.Core.Path.{refl}
-use Rattle.identifier.proofs.Good.{good, bad, too_short, too_long, all_good}
+-- `identifier::tables::is_name`: the two tests as they stand.
+use Rattle.std.proofs.Common.{rules, arith}
+use borrow.Author.Tests.{tests}
+use Rattle.std.proofs.lemmas.Iterator.{YieldsList-from_slice}
+use Rattle.std.proofs.lemmas.Iterator.Search.{all_from_yields_List}
+use Rattle.identifier.specs.Byte.{is_printable}
+use Rattle.identifier.specs.Name.{is_name}
 use Rattle.identifier.proofs.tables.is_name.Goals as goal
 
-pub returns-then-name-lt1 : goal.returns-then-name-lt1
-returns-then-name-lt1 c = search too_short
+pub returns-then-contains : goal.returns-then-contains
+unfolding is_name
+returns-then-contains c =
+    let bytes = YieldsList-from_slice c.args.name.now cc in
+    let all = all_from_yields_List is_printable _ _ c.all.result c.all.ensures.ran bytes (λ x b q k. search (rules, tests)) in
+    grind (arith, all)
 
-pub returns-then-name-gt128 : goal.returns-then-name-gt128
-returns-then-name-gt128 c = search too_long
-
-pub loop-i-init : goal.loop-i-init
-loop-i-init c = record { left = refl }
-
-pub loop-i-preserved : goal.loop-i-preserved
-loop-i-preserved c = search good
-
-pub returns-else-is_printable : goal.returns-else-is_printable
-returns-else-is_printable c = search bad
-
-pub returns : goal.returns
-returns c = search all_good
+pub returns-else-contains : goal.returns-else-contains
+unfolding is_name
+returns-else-contains c = search rules

@@ -4,4 +4,4 @@ use Rattle.identifier.proofs.Table.{class_upper}
 use Rattle.identifier.proofs.tables.is_upper.Goals as goal
 
 pub returns : goal.returns
-returns c = rw (c.class_in.ensures, class_upper c.args.b (search rules))
+returns c = rw (c.class_of.ensures, class_upper c.args.b (search rules))

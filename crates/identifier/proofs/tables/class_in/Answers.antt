@@ -1,8 +1,0 @@
--- `identifier::tables::class_in`: the table's rule at this byte.
-use borrow.Author.Rules.{rules}
-use Rattle.identifier.specs.Byte.{class_of}
-use Rattle.identifier.proofs.Table.{table_at}
-use Rattle.identifier.proofs.tables.class_in.Goals as goal
-
-pub returns : goal.returns
-returns c = rw c.requires (table_at class_of c.args.b (search rules))

@@ -1,9 +1,0 @@
--- `wire::put_decimal` meets its contract: the number falls as its digits are laid.
-use Rattle.wire.proofs.Numbers.{Digits}
-use Rattle.wire.proofs.put_decimal.Given as goal
-
-abbrev pub invariant-loop-m : goal.invariant-loop-m
-invariant-loop-m l = Digits l.digits l.i l.m l.n
-
-abbrev pub decreases-loop-m : goal.decreases-loop-m
-decreases-loop-m l = l.m
