@@ -12,6 +12,7 @@ use parser::Cursor;
 use places::Ordered;
 use wire::Writer;
 
+// A length and a count, lent to each rule in turn.
 // The errors so far: the bytes of their list and their number.
 #[derive(Clone, Copy, Drop)]
 pub struct Collector {

@@ -1,4 +1,4 @@
-// The schema table of a token table that is read without errors.
+// The schema table of a token table that is read without errors. The walks step from cursor to cursor, by what the rules of the parser answer.
 #![tactic(auto)]
 
 ghost use Rattle.std.specs.Prelude.{◌≡◌, ltb};
@@ -62,7 +62,7 @@ fn put_indices(w: &mut Writer, items: &mut [u64], spare: &mut [u64])
         return;
     }
     sorted::sort(&Numbers, items, spare);
-    records::put_record_head(w, schema::kind::Kind::Deleted, NOWHERE, 8 * items.len());
+    records::put_record_head(w, RecordKind::Deleted, NOWHERE, 8 * items.len());
     put_numbers(w, items);
 }
 

@@ -65,6 +65,7 @@ impl<'a> FormBytes<'a> {
         requires { (self.old.rest.now ≡ b ∷ rest.now) × (is_break b ≡ false) }
         ensures { form_left self.old ≡ result ∷ form_left self.new }
     {
+        // One machine for the three cases.
         let byte = match (self.state, self.case) {
             (State::Before, Case::Pascal) => upper_of(b),
             (State::Before | State::Barred, _) => lower_of(b),

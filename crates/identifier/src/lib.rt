@@ -22,6 +22,7 @@ pub struct Form {
     pub len: usize,
 }
 
+// 256 bytes hold any form of a name of 128.
 fn build(name: &[u8], case: Case) -> Form
     requires { length name.now ≤ 128 }
     ensures { IsForm result.bytes result.len (form_of case name.now) }
@@ -33,6 +34,7 @@ fn build(name: &[u8], case: Case) -> Form
     Form { bytes, len }
 }
 
+// Document 01 names the three forms; `Case` stays private.
 pub fn snake(name: &[u8]) -> Form
     requires { length name.now ≤ 128 }
     ensures { IsForm result.bytes result.len (snake_of name.now) }

@@ -3,6 +3,7 @@ ghost use Rattle.std.specs.Prelude.{◌≡◌};
 ghost use Rattle.identifier.specs.Byte.{is_printable, is_break, is_upper, is_plain, class_of, lower_of, upper_of};
 ghost use Rattle.identifier.specs.Name.{is_name};
 
+// One fact of a byte in each table, all proved once (proofs/Table).
 // 0 not printable, 1 the quote, 2 space, 3 any other printable byte, 4 `-`, 5 a digit, 6 `_`, 7 a small letter, 8 a capital
 static CLASS: [u8; 256] = *b"\
     \x00\x00\x00\x00\x00\x00\x00\x00\x00\x00\x00\x00\x00\x00\x00\x00\

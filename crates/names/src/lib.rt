@@ -48,6 +48,7 @@ fn store_form(out: &mut [u8], form: &Form) -> Result<usize, Refused>
     store(out, &form.bytes[..form.len])
 }
 
+// Document 01 has a function for each form.
 pub fn snake_case(out: &mut [u8], name: &[u8]) -> Result<usize, Refused>
     ensures { Answers (is_name name.now) (snake_of name.now) out.old out.new result }
 {
@@ -166,6 +167,7 @@ fn is_namespace(ns: &[u8]) -> bool
     ensures { result ≡ is_namespace ns.now }
 {
     let mut rest = ns;
+    // What is left after so many names is asked, which `take` would lose.
     for _ in 0..MOST_NAMES {
         let Some((name, after)) = split_first_name(rest) else {
             break;
@@ -239,6 +241,7 @@ fn common<'a, 'b>(a: Namespace<'a>, b: Namespace<'b>) -> (&'a [u8], Namespace<'b
 {
     let mut one = a.bytes;
     let mut other = b.bytes;
+    // Both rests are the answer, which `zip` would lose.
     while let (Some((x, x_rest)), Some((y, y_rest))) = (
         split_first_name(one),
         split_first_name(other),

@@ -17,6 +17,7 @@ pub mod fault;
 pub use fault::Fault;
 use token::kind::Kind;
 
+// Functions take a table and a cursor by value, so each asks that the cursor stand in the table.
 /// A place in the token table: a record's, or the table's length at the end of the tokens.
 #[derive(Clone, Copy, Drop, PartialEq, Eq, Debug)]
 pub struct Cursor {
@@ -103,6 +104,7 @@ fn skip_comment(t: &[u8], c: Cursor) -> (Option<usize>, Cursor)
 pub struct TypePlaces {
     pub opens: usize,
     pub depth: usize,
+    // Only the first place of the base is used: an enum of two cases would hold the same place twice.
     pub base: usize,
     pub dotted: bool,
     pub close: usize,

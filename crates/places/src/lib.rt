@@ -1,4 +1,4 @@
-// What is collected from a table for sorting: the numbers of the Integers from a cursor on, and the imports.
+// What is collected from a table for sorting: the numbers of the Integers from a cursor on, and the imports. The walks step from cursor to cursor.
 #![tactic(auto)]
 
 ghost use Rattle.std.specs.Prelude.{◌≤◌, ◌<◌, length};
@@ -13,6 +13,7 @@ use sorted::{Keyed, Names};
 use token::kind::Kind;
 
 // A lent list that fills up from its start on: its first `count` numbers are filled in.
+// The list is the caller's, so how far it is filled stands beside it.
 #[derive(Drop)]
 struct Filling<'a> {
     list: &'a mut [u64],
@@ -81,6 +82,7 @@ pub fn skip_opening(t: &[u8]) -> (Option<usize>, Cursor)
 // Whether no import breaks off and each has a name, how many are read, and the cursor past them.
 #[derive(Drop)]
 struct Walked {
+    // The count holds either way: an enum would have it in both cases.
     sound: bool,
     count: usize,
     next: Cursor,
@@ -149,6 +151,7 @@ pub struct Ordered {
     pub comment: Option<usize>,
     pub from: Cursor,
     pub count: usize,
+    // Two questions are asked: which list stands here (`repeated`), and whether anything is to be judged (`sound`).
     pub repeated: bool,
     pub sound: bool,
     pub next: Cursor,

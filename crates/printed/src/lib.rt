@@ -53,6 +53,7 @@ fn put_error_lines(w: &mut Writer, list: &[u8])
     }
 }
 
+// Making a writer stands in a function of its own: the prover then knows the buffer after it.
 fn print_refusal(refused: Refused, out: &mut [u8]) -> usize
     ensures { Wrote out.old 0 (refusal_line (number_of refused.refusal) refused.offset) out.new result }
 {

@@ -30,6 +30,7 @@ pub struct SourceRange {
     pub end: u32,
 }
 
+// Document 01: the ranges of these records are zeros.
 /// The range of a record that has none.
 pub const NOWHERE: SourceRange = SourceRange { start: 0, end: 0 };
 
@@ -112,6 +113,7 @@ fn put_base(w: &mut Writer, t: &[u8], at: usize, dotted: bool)
     }
     let range = span_tokens(t, at, at);
     match token::kind_at(t, at) {
+        // An empty name of an import is none.
         Kind::Identifier => put_named(w, SchemaKind::Custom, range, &[], token::payload_at(t, at)),
         kind => put_plain(w, range, kind),
     }
@@ -122,6 +124,7 @@ fn put_type(w: &mut Writer, t: &[u8], p: TypePlaces)
     ensures { Puts w.old (encode_type (type_of (type_at t.now p))) w.new }
 {
     let mut opens = p.opens;
+    // The closing brackets are counted down while the opening ones are walked.
     for left in (0..p.depth).rev() {
         put_record_head(
             w,
@@ -134,6 +137,7 @@ fn put_type(w: &mut Writer, t: &[u8], p: TypePlaces)
     put_base(w, t, p.base, p.dotted);
 }
 
+// A record has a count before its paragraphs, and no comment is none of them.
 // The bytes of a comment's paragraphs, none where there is no comment.
 fn comment_at(t: &[u8], comment: Option<usize>) -> &[u8]
     requires { CommentHere t.now comment }

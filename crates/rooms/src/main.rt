@@ -22,6 +22,7 @@ fn print_kept(is_kept: bool) {
     }
 }
 
+// To a descriptor, so not by the line that printed puts.
 fn print_refused(refused: Refused, buffer: &[u8]) {
     io::write_all(1, b"R ");
     io::print_decimal(1, u64::from(refused.refusal.number()));
@@ -74,6 +75,7 @@ fn answer_next(n: u64, table: &mut [u8], buffer: &mut [u8]) -> bool {
     }
     stream::print_title(n);
     buffer.fill(MARK);
+    // The list's own byte.
     if what[0] == 0 {
         read_into(&table[..got], buffer, room);
     } else {

@@ -96,6 +96,7 @@ fn is_declaration(p: &[u8]) -> bool
 fn is_field(p: &[u8]) -> bool
     ensures { result ≡ is_field p.now }
 {
+    // A field's rule is 0, 1 or 2.
     9 <= p.len() && p[0] <= 2 && is_declaration(&p[9..])
 }
 
@@ -187,6 +188,7 @@ fn may_follow(last: Option<Kind>, kind: Option<Kind>) -> bool
     }
 }
 
+// token's walk in form; what is asked of the table and the kinds differ, and one walk for both would want a trait.
 // The record at a place: its kind, its source range, what it holds, and the place after it.
 pub fn kind_at(t: &[u8], at: usize) -> Kind
     requires { (WholeAt t.now at) × (is_payload (kind_at t.now at) (payload_at t.now at) ≡ true) }
@@ -231,6 +233,7 @@ fn is_before(a: &[u8], b: &[u8]) -> bool
     identifier::compare(a, b).is_lt()
 }
 
+// As token's, over other kinds.
 #[tactic(auto, unfolding(crate::specs::Table::row_after, wire::specs::Pick::pick))]
 fn row_after(row: usize, kind: Kind) -> usize
     requires { row ≤ 64 }
@@ -246,6 +249,7 @@ fn row_after(row: usize, kind: Kind) -> usize
 #[derive(Clone, Copy, Drop)]
 struct Before<'a> {
     kind: Option<Kind>,
+    // Three tests ask the kind alone, and only `is_later` the payload.
     payload: &'a [u8],
     row: usize,
     ghost shallow: { row ≤ 64 },
@@ -299,6 +303,7 @@ fn is_table(t: &[u8]) -> bool
         row: 0,
     };
     let mut rest = t;
+    // The state and what is left step together, and either ends it.
     while !rest.is_empty() {
         let Some((record, after)) = split_record(rest) else {
             return false;

@@ -20,6 +20,7 @@ fn is_parent(part: &[u8]) -> bool
     matches!(part, [b'.', b'.'])
 }
 
+// An empty part is none throughout: the name of an import is a part of one of two slices (`import_name`).
 // A part of some bytes, from a place up to another.
 #[derive(Clone, Copy, Drop)]
 pub struct Part {
@@ -33,6 +34,7 @@ fn last_part(path: &[u8]) -> Part
 {
     let mut last = Part { from: 0, to: 0 };
     let mut start = 0;
+    // `split` would give the parts and not their places.
     for (i, b) in path.iter().enumerate() {
         if *b == b'/' {
             if is_kept(&path[start..i]) {

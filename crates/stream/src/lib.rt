@@ -22,6 +22,7 @@ pub fn next_number() -> Option<usize>
 
 fn skip(size: usize, spare: &mut [u8]) {
     let mut left = size;
+    // Ends by what each read gives.
     while 0 < left {
         let n = left.min(spare.len());
         let got = io::read_full(0, &mut spare[..n]);

@@ -19,6 +19,7 @@ use wire::Writer;
 
 const MAX_COLUMNS: usize = 79;
 
+// The indentation is one of two constants.
 fn put_line(w: &mut Writer, indentation: &[u8], line: &[u8])
     ensures { Puts w.old (line_text indentation.now line.now) w.new }
 {
@@ -46,6 +47,7 @@ fn put_paragraph(w: &mut Writer, indentation: &[u8], s: &[u8])
 {
     let width = (MAX_COLUMNS - 2).saturating_sub(indentation.len());
     let mut rest = s;
+    // The last line is what is left.
     while let Some(end) = line_end(rest, width) {
         let (line, left) = rest.split_at(end);
         put_line(w, indentation, line);
@@ -54,6 +56,7 @@ fn put_paragraph(w: &mut Writer, indentation: &[u8], s: &[u8])
     put_line(w, indentation, rest);
 }
 
+// `later` is as the definition `mark` takes it.
 // A line of `#` before a paragraph, where it comes later than another.
 fn put_mark(w: &mut Writer, indentation: &[u8], later: bool)
     ensures { Puts w.old (mark indentation.now later) w.new }
@@ -100,6 +103,7 @@ pub fn put_blank(w: &mut Writer, b: bool)
 fn is_inferred(name: &[u8], path: &[u8]) -> bool
     ensures { result ≡ is_inferred name.now path.now }
 {
+    // An empty stem is none.
     let inferred = stem::stem(path);
     !inferred.is_empty() && identifier::same(inferred, name)
 }

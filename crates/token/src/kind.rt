@@ -33,6 +33,7 @@ pub enum Kind {
     Unit = 25,
 }
 
+// schema's kinds have their own error of this shape.
 /// A number that is no kind's.
 #[derive(Clone, Copy, Drop, PartialEq, Eq, Debug)]
 pub struct UnknownKind(pub u16);

@@ -20,6 +20,7 @@ use wire::{Refusal, Refused};
 // of a name or a path
 const LONGEST: usize = 128;
 
+// Three bounds on a byte's class, each with a law of its own.
 #[tactic(auto, using(identifier::proofs::Table::class_start))]
 fn is_name_start(b: u8) -> bool
     ensures { result ≡ is_name_start b }
@@ -137,6 +138,7 @@ fn is_payload(kind: Kind, p: &[u8]) -> bool
 /// A record of a table: its kind's number, its source range and what it holds.
 #[derive(Clone, Copy, Drop)]
 pub struct Record<'a> {
+    // Still a number: token and schema tables have different kinds, and each check decodes its own.
     pub kind: u16,
     pub start: u32,
     pub end: u32,

@@ -3,6 +3,7 @@
 
 // One byte more than a table may have is read: that tells a table that is too long, and of an endless input no more is read.
 fn main() {
+    // Fixed memory.
     let mut table = [0; 65537];
     let mut schema = [0; 65536];
     let mut text = [0; 147456];

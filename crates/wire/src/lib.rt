@@ -36,6 +36,7 @@ impl Refusal {
 #[derive(Clone, Copy, Drop, PartialEq, Eq, Debug)]
 pub struct Refused {
     pub refusal: Refusal,
+    // Every refusal has an offset, for callers in C too.
     pub offset: usize,
 }
 
@@ -47,6 +48,7 @@ impl From<Refusal> for Refused {
     }
 }
 
+// Measuring takes the place past the end, so that it is no slice's length.
 /// A lent buffer and the place in it that comes next: bytes are laid over it from there on, and what falls past its end is dropped.
 #[derive(Drop)]
 pub struct Writer<'a> {
@@ -111,6 +113,7 @@ impl<'a> Writer<'a> {
     pub fn put_decimal(&mut self, n: u64)
         ensures { Puts self.old (decimal n) self.new }
     {
+        // A u64 has at most 20 digits.
         let mut digits = [0u8; 20];
         let mut i = 19;
         let mut m = n;

@@ -120,6 +120,7 @@ fn put_fields(w: &mut Writer, t: &[u8], from: usize) -> usize
     ensures { Fields t.now from w.old result w.new }
 {
     let mut at = from;
+    // Whether the field before has a comment decides the line between the two.
     let mut commented = false;
     while at < t.len() && schema::kind_at(t, at) == Kind::Field {
         let next = schema::next_at(t, at);
