@@ -2,7 +2,10 @@
 use mathlib.Core.Path.{◌≡◌, refl}
 use mathlib.Core.Bool.{Bool, true, false}
 use mathlib.Core.List.{[], ◌∷◌, ◌++◌}
-use Prim.Native.Nat.{ℕ}
+use Prim.Native.Nat.{ℕ, suc, ◌+◌, ◌<◌, ◌≤◌}
+use native.Mathlib.Numerals.{add-one}
+use lib.ListN.{length, get_or, drop, drop_of_length-le}
+use lib.Seq.{drop-cons}
 use Rattle.wire.specs.Bytes.{Bytes}
 use Rattle.wire.specs.Pick.{pick}
 use Rattle.identifier.specs.Byte.{is_upper, is_plain, is_break}
@@ -26,6 +29,13 @@ module _ (f g : ℕ → Bytes) (b : ℕ) (bs : Bytes) (e : is_break b ≡ true) 
   pub left_break : (s : State) → left_of f g s (b ∷ bs) ≡ left_of f g (state_after s b) bs
   unfolding state_after pick
   left_break s = rw e (passed s)
+
+-- where the name ends nothing is left
+pub left_none : (f g : ℕ → Bytes) (s : State) → left_of f g s [] ≡ []
+left_none f g Before = refl
+left_none f g Inside = refl
+left_none f g Between = refl
+left_none f g Barred = refl
 
 abbrev pub left_in : Case → State → Bytes → Bytes
 left_in case = left_of (first_by case) (later_by case)
@@ -52,6 +62,18 @@ module _ (case : Case) (b : ℕ) (bs : Bytes) where
           → left_in case s (b ∷ bs) ≡ added case s b ++ left_in case (state_after s b) bs
       go true e = rw e (passed (first_by case) (later_by case) b bs e s)
       go false e = rw e (word e s)
+
+-- the same at a place of a name
+module _ (case : Case) (s : State) (name : Bytes) {at : ℕ} (h : at < length name) where
+  pub left_past : is_break (get_or name at 0) ≡ true → left_in case s (drop at name) ≡ left_in case (state_after s (get_or name at 0)) (drop (at + 1) name)
+  left_past e = rw (add-one, drop-cons name at 0 h) (left_break (first_by case) (later_by case) (get_or name at 0) (drop (suc at) name) e s)
+
+  pub left_word : is_break (get_or name at 0) ≡ false
+      → left_in case s (drop at name) ≡ word_added case s (get_or name at 0) ++ left_in case Inside (drop (at + 1) name)
+  left_word e = rw (add-one, drop-cons name at 0 h) (word case (get_or name at 0) (drop (suc at) name) e s)
+
+pub left_end : (case : Case) (s : State) (name : Bytes) {at : ℕ} → length name ≤ at → left_in case s (drop at name) ≡ []
+left_end case s name h = rw (drop_of_length-le name h) (left_none (first_by case) (later_by case) s)
 
 -- a small letter or a digit stands in a snake form as it is, behind `_` where a later word begins
 abbrev pub lead : State → Bytes

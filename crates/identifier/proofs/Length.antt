@@ -38,9 +38,9 @@ module _ (g : ℕ → Bytes) (few : (b : ℕ) → length (g b) ≤ 2) where
             between = rw (later_begin_lem b bs g e) (rw length-append (omega (arith, s.inside, few b)));
           }
 
-  joined_short : (f : ℕ → Bytes) → ((b : ℕ) → length (f b) ≤ 1) → (bs : Bytes) → length (joined f g (words_of bs)) ≤ 2 * length bs - 1
-  joined_short f one [] = omega arith
-  joined_short f one (b ∷ bs) = go (is_break b) refl (joined_short f one bs)
+  pub form_short : (f : ℕ → Bytes) → ((b : ℕ) → length (f b) ≤ 1) → (bs : Bytes) → length (joined f g (words_of bs)) ≤ 2 * length bs - 1
+  form_short f one [] = omega arith
+  form_short f one (b ∷ bs) = go (is_break b) refl (form_short f one bs)
     where
       go : (x : Bool) → is_break b ≡ x → length (joined f g (words_of bs)) ≤ 2 * length bs - 1
           → length (joined f g (words_of (b ∷ bs))) ≤ 2 * length (b ∷ bs) - 1
@@ -48,9 +48,9 @@ module _ (g : ℕ → Bytes) (few : (b : ℕ) → length (g b) ≤ 2) where
       go false e k = rw (joined_begin b bs g f e) (rw length-append (omega (arith, (short bs).inside, one b)))
 
 pub case_short : (case : Case) (name : Bytes) → length (form_of case name) ≤ 2 * length name - 1
-case_short Snake = joined_short bar_low (λ b. omega arith) low (λ b. omega arith)
-case_short Camel = joined_short up (λ b. omega arith) low (λ b. omega arith)
-case_short Pascal = joined_short up (λ b. omega arith) up (λ b. omega arith)
+case_short Snake = form_short bar_low (λ b. omega arith) low (λ b. omega arith)
+case_short Camel = form_short up (λ b. omega arith) low (λ b. omega arith)
+case_short Pascal = form_short up (λ b. omega arith) up (λ b. omega arith)
 
 -- what a caller cites, who has no name for a case
 pub snake_short : (name : Bytes) → length (snake_of name) ≤ 2 * length name - 1

@@ -1,8 +1,8 @@
-// The bytes of a form, one by one: a form is built, put and compared from these.
+// The state between the bytes of a name, and the bytes of a form one by one, as two forms are compared.
 ghost use Rattle.std.specs.Prelude.{◌≡◌, ◌∷◌, false};
 ghost use Rattle.std.specs.Iterator.{YieldsFirst, item_count};
 ghost use Rattle.identifier.specs.Byte.{is_break};
-ghost use Rattle.identifier.specs.Left.{first_by, state_after, form_of, form_left};
+ghost use Rattle.identifier.specs.Left.{first_by, state_after, form_left};
 
 use super::tables::{is_break, is_upper, lower_of, upper_of};
 
@@ -50,16 +50,6 @@ pub struct FormBytes<'a> {
 }
 
 impl<'a> FormBytes<'a> {
-    pub(crate) fn new(name: &'a [u8], case: Case) -> FormBytes<'a>
-        ensures { form_left result ≡ form_of case name.now }
-    {
-        FormBytes {
-            rest: name,
-            case,
-            state: State::Before,
-        }
-    }
-
     // The next byte where b, which is no break, is the name's next byte, and `rest` is left behind it.
     fn word_byte(&mut self, b: u8, rest: &'a [u8]) -> u8
         requires { (self.old.rest.now ≡ b ∷ rest.now) × (is_break b ≡ false) }

@@ -3,16 +3,19 @@
 
 mod form_bytes;
 mod order;
-mod tables;
+pub mod tables;
 
 ghost use Rattle.std.specs.Prelude.{◌≡◌, ◌≤◌, length};
+ghost use Rattle.wire.specs.Put.{Wrote};
 ghost use Rattle.wire.specs.Puts.{Puts};
-ghost use Rattle.identifier.specs.Left.{form_of};
+ghost use Rattle.identifier.specs.Left.{word_added, form_of};
 ghost use Rattle.identifier.specs.Forms.{snake_of, camel_of, pascal_of, IsForm};
 
-use form_bytes::{Case, FormBytes};
+use form_bytes::{Case, State};
 pub use order::{compare, same};
+pub use std::cmp::Ordering as Order;
 pub use tables::{class_of, is_name};
+use tables::{is_break, is_upper, lower_of, upper_of};
 use wire::Writer;
 
 /// A form of a name, as document 01 names it: 256 bytes, which hold any form, with a length. Zeros stand behind it.
@@ -56,13 +59,52 @@ pub fn pascal(name: &[u8]) -> Form
     build(name, Case::Pascal)
 }
 
+// What a byte of a name that is no break adds to a form.
+#[tactic(auto, unfolding(wire::specs::Pick::pick))]
+fn put_word_byte(w: &mut Writer, case: Case, state: State, b: u8)
+    ensures { Puts w.old (word_added case state b) w.new }
+{
+    match (state, case) {
+        (State::Before, Case::Pascal) => w.put_byte(upper_of(b)),
+        (State::Before | State::Barred, _) => w.put_byte(lower_of(b)),
+        (State::Inside, _) if !is_upper(b) => w.put_byte(lower_of(b)),
+        (_, Case::Snake) => {
+            w.put_byte(b'_');
+            w.put_byte(lower_of(b));
+        }
+        _ => w.put_byte(upper_of(b)),
+    }
+}
+
+// A byte of the name at a time: by the form's own bytes a capital would be looked at twice.
+fn put_bytes(w: &mut Writer, name: &[u8], case: Case)
+    ensures { Puts w.old (form_of case name.now) w.new }
+{
+    let mut state = State::Before;
+    for b in name {
+        if is_break(*b) {
+            state = state.after(*b);
+        } else {
+            put_word_byte(w, case, state, *b);
+            state = State::Inside;
+        }
+    }
+}
+
+// A writer of its own keeps the place out of memory.
+fn put_at(out: &mut [u8], at: usize, name: &[u8], case: Case) -> usize
+    ensures { Wrote out.old at (form_of case name.now) out.new result }
+{
+    let mut w = Writer { out, at };
+    put_bytes(&mut w, name, case);
+    w.at
+}
+
 // A form is put byte by byte: an array of 256 bytes in between would cost more than the form.
 fn put_form(w: &mut Writer, name: &[u8], case: Case)
     ensures { Puts w.old (form_of case name.now) w.new }
 {
-    for b in FormBytes::new(name, case) {
-        w.put_byte(b);
-    }
+    w.at = put_at(w.out, w.at, name, case);
 }
 
 pub fn put_snake(w: &mut Writer, name: &[u8])

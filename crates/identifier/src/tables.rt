@@ -1,6 +1,7 @@
 // Byte tables: each byte's class and its lower and upper form, and the tests of a byte.
 ghost use Rattle.std.specs.Prelude.{◌≡◌};
 ghost use Rattle.identifier.specs.Byte.{is_printable, is_break, is_upper, is_plain, class_of, lower_of, upper_of};
+ghost use Rattle.identifier.specs.Table.{table};
 ghost use Rattle.identifier.specs.Name.{is_name};
 
 // One fact of a byte in each table, all proved once (proofs/Table).
@@ -59,6 +60,25 @@ static UPPER: [u8; 256] = *b"\
     \xe0\xe1\xe2\xe3\xe4\xe5\xe6\xe7\xe8\xe9\xea\xeb\xec\xed\xee\xef\
     \xf0\xf1\xf2\xf3\xf4\xf5\xf6\xf7\xf8\xf9\xfa\xfb\xfc\xfd\xfe\xff";
 
+/// Each byte's class, its lower form and its upper form, as tables.
+pub fn class_table() -> [u8; 256]
+    ensures { result ≡ table class_of }
+{
+    CLASS
+}
+
+pub fn lower_table() -> [u8; 256]
+    ensures { result ≡ table lower_of }
+{
+    LOWER
+}
+
+pub fn upper_table() -> [u8; 256]
+    ensures { result ≡ table upper_of }
+{
+    UPPER
+}
+
 /// A byte's class, a number and no enum: the classes rise, so that each rule on a payload's bytes is one comparison.
 pub fn class_of(b: u8) -> u8
     ensures { result ≡ class_of b }
@@ -66,13 +86,13 @@ pub fn class_of(b: u8) -> u8
     CLASS[b as usize]
 }
 
-pub(crate) fn lower_of(b: u8) -> u8
+pub fn lower_of(b: u8) -> u8
     ensures { result ≡ lower_of b }
 {
     LOWER[b as usize]
 }
 
-pub(crate) fn upper_of(b: u8) -> u8
+pub fn upper_of(b: u8) -> u8
     ensures { result ≡ upper_of b }
 {
     UPPER[b as usize]
@@ -94,7 +114,7 @@ pub(crate) fn is_upper(b: u8) -> bool
 pub(crate) fn is_break(b: u8) -> bool
     ensures { result ≡ is_break b }
 {
-    matches!(b, b'_' | b'-')
+    matches!(class_of(b), 4 | 6)
 }
 
 // Whether a byte stands in a snake form as it is: a small letter or a digit.

@@ -119,6 +119,19 @@ over_clipped o at bs h f small =
     ap (λ (k : ℕ). put_mid at k o front) l ∙ rw (drop-drop, ← append_assoc) (sym (over_fits front o at (omega arith) small)) in
     lent ∙ sym past ∙ all
 
+-- the same of a whole writer
+module _ (o : Bytes) (at : ℕ) (bs : Bytes) (small : length o ≤ 18446744073709551615) (here : at ≤ 18446744073709551615) where
+  pub wrote_past : {r : ℕ} → length o ≤ at → r ≡ min (at + length bs) 18446744073709551615 → Wrote o at bs o r
+  wrote_past h p = record { bytes = sym (over_past bs o at h small); place = p ∙ sym (adv_is bs at here) }
+
+  pub wrote_whole : (end : ℕ) {x : Bytes} → end ≤ length o → end ≡ at + length bs → x ≡ bs → Wrote o at bs (put_mid at (end - at) o x) end
+  wrote_whole end h q p = record { bytes = rw (p, q) (over_whole o at bs (omega arith) small); place = omega (arith, adv_is bs at here) }
+
+  pub wrote_clipped : {r : ℕ} {x : Bytes} → at ≤ length o → length o - at ≤ length bs → x ≡ take (length o - at) bs
+      → r ≡ min (at + length bs) 18446744073709551615
+      → Wrote o at bs (put_mid at (length o - at) o x) r
+  wrote_clipped h f p q = record { bytes = rw p (over_clipped o at bs h f small); place = q ∙ sym (adv_is bs at here) }
+
 -- What a public function learns that first writes into the empty part of its buffer o, which leaves e there: nothing changed, and whether the
 -- bytes fit. Its tests are of the buffer as it is then, e ++ o.
 pub nothing : (o : Bytes) {bs e : Bytes} {need : ℕ} → Wrote [] 0 bs e need → e ++ o ≡ o

@@ -69,9 +69,11 @@ impl<'a> Writer<'a> {
         ensures { Puts self.old (b ∷ []) self.new }
     {
         let at = self.at;
-        self.at = at.saturating_add(1);
         if at < self.out.len() {
             self.out[at] = b;
+            self.at = at + 1;
+        } else {
+            self.at = at.saturating_add(1);
         }
     }
 
@@ -136,9 +138,19 @@ fn lay(out: &mut [u8], at: usize, s: &[u8])
     }
     let room = out.len() - at;
     if s.len() <= room {
-        out[at..at + s.len()].copy_from_slice(s);
+        copy(&mut out[at..at + s.len()], s);
     } else {
-        out[at..].copy_from_slice(&s[..room]);
+        copy(&mut out[at..], &s[..room]);
+    }
+}
+
+/// The library's `copy_from_slice` is compiled to a call of `memmove`, a name that the archive for C would ask of its users.
+pub fn copy<T: Copy>(to: &mut [T], s: &[T])
+    requires { length to.old ≡ length s.now }
+    ensures { to.new ≡ s.now }
+{
+    for i in 0..s.len() {
+        to[i] = s[i];
     }
 }
 

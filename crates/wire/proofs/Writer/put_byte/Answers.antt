@@ -6,7 +6,7 @@ use Rattle.wire.proofs.Writer.put_byte.Goals as goal
 
 pub returns-then-at-self : goal.returns-then-at-self
 unfolding over adv
-returns-then-at-self c = record { same = refl; wrote = record { bytes = refl; place = c.saturating_add-self.ensures } }
+returns-then-at-self c = record { same = refl; wrote = record { bytes = refl; place = omega arith } }
 
 pub returns-else-at-self : goal.returns-else-at-self
 unfolding adv
