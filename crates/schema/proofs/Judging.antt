@@ -17,6 +17,7 @@ use Rattle.token.proofs.Records.{fits}
 use Rattle.schema.specs.Kind.{s_import}
 use Rattle.schema.specs.Payload.{is_sized, is_named, is_import, is_type_payload, is_payload}
 use Rattle.schema.specs.Table.{records_of, is_framed, may_follow, row_after, is_next, are_next, seen, Adds, is_schema_table}
+use Rattle.schema.proofs.Parts.{named_sized}
 use Rattle.schema.proofs.Records.{Whole, framed_not, framed_step, records_step}
 
 -- the next record is judged by the last one's kind and payload alone
@@ -42,10 +43,10 @@ payload_unknown k p h =
 
 -- an import that is right has a name after its length
 pub import_sized : (k : ℕ) (p : Bytes) → is_payload k p ≡ true → k ≡ s_import → is_sized p ≡ true
-unfolding is_payload pick is_import is_named
+unfolding is_payload pick is_import
 import_sized k p e i =
     let b : is_import p ≡ true = rw i at e in
-    ((and-eq-true_iff (is_sized p) _).0 ((and-eq-true_iff (is_named p) _).0 b).0).0
+    named_sized p ((and-eq-true_iff (is_named p) _).0 b).0
 
 pub ruleset of_payloads = (import_sized, payload_unknown)
 

@@ -16,7 +16,7 @@ use Rattle.token.proofs.Paragraphs.{all_take, all_drop, page_size, page_length}
 use Rattle.token.proofs.Encode.{le_small, bytes_at}
 use Rattle.schema.specs.Limits.{Each}
 use Rattle.schema.specs.Encode.{sized, indices}
-use Rattle.schema.specs.Payload.{name_of, after_name, is_sized, indices_in, indices_of}
+use Rattle.schema.specs.Payload.{name_of, after_name, is_sized, is_named, indices_in, indices_of}
 
 -- a number fits the bytes that it was read from
 pub le_at_small : (k : ℕ) (bs : Bytes) (at : ℕ) → AllBytes bs → at + k ≤ length bs → le_at k bs at < 256 ^ k
@@ -52,6 +52,10 @@ unfolding paragraph_of after_paragraph
 name_back p s a =
     let h = s.room in
     rw (s.size, bytes_at 2 0 p a (omega arith), ← (take-add 2 (u16_at p 0) p), drop-drop) (take-append-drop (2 + u16_at p 0) p)
+
+pub named_sized : (p : Bytes) → is_named p ≡ true → is_sized p ≡ true
+unfolding is_named
+named_sized p e = ((and-eq-true_iff (is_sized p) _).0 e).0
 
 -- u64s
 pub indices-length : (ns : List ℕ) → length (indices ns) ≡ 8 * length ns

@@ -2,9 +2,9 @@
 use mathlib.Core.Path.{◌≡◌, refl, ap, ◌∙◌}
 use mathlib.Core.Bool.{Bool, true, false}
 use mathlib.Core.Option.{Option, none, some}
-use Prim.Native.Nat.{ℕ, ◌≤◌}
+use Prim.Native.Nat.{ℕ, ◌≤◌, ◌<◌}
 use native.Mathlib.Omega.{arith}
-use borrow.Author.Tests.{ltb-false}
+use borrow.Author.Tests.{lt-ltb, le-ltb, ltb-false}
 use lib.Dec.{ltb}
 use lib.ListN.{length}
 use Rattle.wire.specs.Bytes.{Bytes}
@@ -15,7 +15,7 @@ use Rattle.schema.specs.Decode.{schema_of, decode_schema}
 use Rattle.schema.specs.Checked.{answer_of, checked}
 use Rattle.std.specs.Prelude.{Ok, Err}
 use Rattle.wire.specs.Refusal.{refused_by}
-use Rattle.wire.specs.declared.Refusal.TheVariants.{TableTooLong}
+use Rattle.wire.specs.declared.Refusal.TheVariants.{TableTooLong, NotASchema}
 
 -- where decoding gives a schema, the bytes are a schema table, and it holds that schema
 pub record Decoded (t : Bytes) (s : Schema) : Type 0 where
@@ -29,6 +29,21 @@ decoded t s e = go (is_schema_table t) refl e
     go : (b : Bool) → is_schema_table t ≡ b → pick b (some (schema_of (records_of t))) none ≡ some s → Decoded t s
     go true r e = unfold pick in record { right = r; schema = cc }
     go false r e = let z : ◌≡◌ {A = ℕ} 0 1 = unfold pick in cc in absurd (omega arith)
+
+module _ (t : Bytes) where
+  -- the ways of the check
+  pub checked_long : 131072 < length t → Err (refused_by TableTooLong) ≡ checked t
+  unfolding checked pick
+  checked_long h = rw (lt-ltb 131072 (length t) h)
+
+  module _ {b : Bool} (h : length t ≤ 131072) (e : b ≡ is_schema_table t) where
+    pub checked_table : b ≡ true → Ok tt ≡ checked t
+    unfolding checked decode_schema pick
+    checked_table f = rw (le-ltb 131072 (length t) h, ← e, f)
+
+    pub checked_other : b ≡ false → Err (refused_by NotASchema) ≡ checked t
+    unfolding checked decode_schema pick
+    checked_other f = rw (le-ltb 131072 (length t) h, ← e, f)
 
 -- what passes it
 pub record Passed (t : Bytes) : Type 0 where

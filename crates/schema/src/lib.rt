@@ -189,12 +189,20 @@ fn may_follow(last: Option<Kind>, kind: Option<Kind>) -> bool
 }
 
 // token's walk in form; what is asked of the table and the kinds differ, and one walk for both would want a trait.
-// The record at a place: its kind, its source range, what it holds, and the place after it.
-pub fn kind_at(t: &[u8], at: usize) -> Kind
+// The record at a place: the number of its kind, its source range, what it holds, and the place after it.
+pub fn kind_at(t: &[u8], at: usize) -> u16
+    requires { at + 4 ≤ length t.now }
+    ensures { result ≡ kind_at t.now at }
+{
+    wire::u16_at(t, at + 2)
+}
+
+// The kind of a record that the check let pass.
+pub fn known_kind_at(t: &[u8], at: usize) -> Kind
     requires { (WholeAt t.now at) × (is_payload (kind_at t.now at) (payload_at t.now at) ≡ true) }
     ensures { number_of result ≡ kind_at t.now at }
 {
-    Kind::try_from(wire::u16_at(t, at + 2)).unwrap()
+    Kind::try_from(kind_at(t, at)).unwrap()
 }
 
 pub fn start_at(t: &[u8], at: usize) -> u32

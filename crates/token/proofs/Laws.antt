@@ -94,6 +94,9 @@ module _ {p : Bytes} {n at : ℕ} {r : Bool} (s : Paging p n at r) where
       sym s.left ∙ paragraphs_step n (drop at p) e l
       ∙ rw (at_least-length 2 (drop at p), at_least-length (2 + u16_at p at) (drop at p), length-drop at p, drop-drop 2 at p, drop-drop (u16_at p at) (at + 2) p, z)
 
+  pub paged_end : length p ≤ at → true ≡ r
+  paged_end h = sym (paragraphs_none n) ∙ rw (drop_of_length-le p h) at s.left
+
 -- the part `&p[at..]`
 pub part_from : (p : Bytes) (at : ℕ) → take (length p - at) (drop at p) ≡ drop at p
 part_from p at = take_all (length p - at) (drop at p) (rw length-drop (omega arith))

@@ -145,18 +145,27 @@ pub struct Record<'a> {
     pub payload: &'a [u8],
 }
 
+/// Whether these bytes begin with a whole record.
+#[tactic(auto, using(crate::proofs::Records::whole_is))]
+pub fn is_whole(bs: &[u8]) -> bool
+    ensures { result ≡ is_whole bs.now }
+{
+    if bs.len() < 12 {
+        return false;
+    }
+    let size = wire::u16_at(bs, 0) as usize;
+    12 <= size && size <= bs.len()
+}
+
 /// The record that these bytes begin with, if it is whole, and what follows it.
 #[tactic(auto, using(crate::proofs::Records::whole_is))]
 pub fn split_record(bs: &[u8]) -> Option<(Record<'_>, &[u8])>
     ensures { MatchOption result (is_whole bs.now ≡ false) (λ s. SplitsRecord bs.now s.0 s.1.now) }
 {
-    if bs.len() < 12 {
+    if !is_whole(bs) {
         return None;
     }
     let size = wire::u16_at(bs, 0) as usize;
-    if size < 12 || bs.len() < size {
-        return None;
-    }
     let record = Record {
         kind: wire::u16_at(bs, 2),
         start: wire::u32_at(bs, 4),
@@ -268,11 +277,19 @@ pub fn check(t: &[u8]) -> Result<Checked, Refused>
 }
 
 // The walk over a table that passed the check: what stands at a place, and the place after it.
+/// The number of a token's kind, which need not be decoded to be compared with one that is known.
+pub fn number_at(t: &[u8], at: usize) -> u16
+    requires { (Wf t.now at) × (at < length t.now) }
+    ensures { result ≡ (tok_at t.now at).kind }
+{
+    wire::u16_at(t, at + 2)
+}
+
 pub fn kind_at(t: &[u8], at: usize) -> Kind
     requires { (Wf t.now at) × (at < length t.now) }
     ensures { number_of result ≡ (tok_at t.now at).kind }
 {
-    Kind::try_from(wire::u16_at(t, at + 2)).unwrap()
+    Kind::try_from(number_at(t, at)).unwrap()
 }
 
 pub fn start_at(t: &[u8], at: usize) -> u32

@@ -8,11 +8,11 @@ use Rattle.schema.specs.declared.kind.Kind.{Kind}
 use Rattle.schema.specs.declared.kind.UnknownKind.{UnknownKind}
 use Rattle.schema.proofs.Judging.{payload_unknown}
 use Rattle.schema.proofs.Steps.{never}
-use Rattle.schema.proofs.kind_at.Goals as goal
+use Rattle.schema.proofs.known_kind_at.Goals as goal
 
 known : (n : ℕ) (p : Bytes) (r : Result Kind UnknownKind) → Decodes n r → is_payload n p ≡ true → IsOk r
 known n p (Ok kind) d e = refl
 known n p (Err u) d e = never (sym (payload_unknown n p d.1) ∙ e)
 
 pub unwrap-requires : goal.unwrap-requires
-unwrap-requires c = known _ _ _ (rw c.u16_at.ensures at c.try_from.ensures) c.requires.1
+unwrap-requires c = known _ _ _ (rw c.kind_at.ensures at c.try_from.ensures) c.requires.1
