@@ -2,21 +2,22 @@
 use Prim.Native.Nat.{ℕ, zero, suc, ◌≤◌, ◌<◌}
 use mathlib.Core.Path.{◌≡◌, refl, sym, ap, subst, ◌∙◌}
 use mathlib.Core.Bool.{Bool, true, false, true≢false}
-use mathlib.Core.Option.{Option, some}
+use mathlib.Core.Option.{Option, none, some}
 use mathlib.Core.List.{List, [], ◌∷◌}
 use native.Mathlib.Omega.{arith}
-use borrow.Author.Tests.{ltb-true, ltb-false}
-use lib.Dec.{ltb}
+use borrow.Author.Tests.{ltb-true, ltb-false, le-leb, ne_eqb}
+use lib.Dec.{eqb, leb, ltb}
 use lib.ListN.{length}
-use Rattle.std.specs.Prelude.{Some, Result as Outcome, Ok, Err, IsErrAnd, MatchResult, Option as Places, IfSome, is_some}
+use Rattle.std.specs.Prelude.{Some, None, Result as Outcome, Ok, Err, IsErrAnd, MatchResult, Option as Places, IfSome, is_some}
 use Rattle.wire.specs.Bytes.{Bytes}
+use Rattle.std.proofs.lemmas.Bool.{lt-leb}
 use Rattle.wire.specs.Pick.{pick}
 use Rattle.token.specs.Token.{Token}
 use Rattle.token.specs.Places.{tok_at, next_at, tokens_from, Wf}
 use Rattle.token.proofs.Walk.{tokens_end, tokens_step, wf_good, wf_next, next_past}
 use Rattle.grammar.specs.Error.{kind_at}
 use Rattle.grammar.specs.Reading.{Result, ok, fail, and_then, consume, optional}
-use Rattle.grammar.proofs.Rules.{consume_complete}
+use Rattle.grammar.proofs.Rules.{consume_complete, optional_none}
 use Rattle.parser.specs.Laid.{place_if}
 use Rattle.parser.specs.Steps.{ahead, Stands, Stepped, Reads, TokenPassed, Skipped}
 use Rattle.parser.specs.declared.Cursor.{Cursor}
@@ -43,6 +44,17 @@ module _ (t : Bytes) (at : ℕ) where
       go : (b : Bool) → ltb at (length t) ≡ b → tokens_from t at ≡ []
       go true e = let h = ltb-true at (length t) e in absurd (omega (arith, kind_there h, (wf_good w h).sound.known.0))
       go false e = tokens_end t at (ltb-false at (length t) e)
+
+  pub ended : Wf t at → leb (length t) at ≡ eqb (kind_at (tokens_from t at)) 0
+  ended w = go (ltb at (length t)) refl
+    where
+      go : (b : Bool) → ltb at (length t) ≡ b → leb (length t) at ≡ eqb (kind_at (tokens_from t at)) 0
+      go true e =
+          let h = ltb-true at (length t) e in
+          rw (lt-leb (length t) at h, kind_there h, ne_eqb (tok_at t at).kind 0 (omega (arith, (wf_good w h).sound.known.0)))
+      go false e =
+          let h = ltb-false at (length t) e in
+          rw (le-leb (length t) at h, kind_end h)
 
 -- a kind that passes a test which the end fails is a token's
 pub some_kind : (test : ℕ → Bool) (k : ℕ) → test 0 ≡ false → test k ≡ true → 0 < k
@@ -91,7 +103,11 @@ module _ {A B : Type 0} {t : Bytes} {c d : Cursor} {rule : List Token → Result
   pub stop : {n : ℕ} → Reads t c rule (fail n) d → Reads t c (λ ts. and_then (rule ts) f) (fail n) d
   stop p = record { gives = rw p.gives; wf = p.wf; onward = p.onward }
 
--- A part that stands there, by the test of its first token's kind.
+-- A part that may be absent, by the test of its first token's kind.
+pub absent : {A : Type 0} {t : Bytes} {c : Cursor} (test : ℕ → Bool) (rule : Token → List Token → Result A) → Wf t c.at → test (kind_at (ahead t c)) ≡ false
+    → Reads t c (optional test rule) (ok none) c
+absent {t = t} {c} test rule w e = record { gives = optional_none test rule (ahead t c) e; wf = w; onward = omega arith }
+
 module _ {A : Type 0} {t : Bytes} {c d e : Cursor} (test : ℕ → Bool) (rule : Token → List Token → Result A) (s : Stepped t c d)
     (k : test (kind_at (ahead t c)) ≡ true) where
   begins : {out : List Token → Result (Option A)} → Reads t d (λ ts. and_then (rule (tok_at t c.at) ts) λ x r. ok (some x) r) out e
@@ -118,6 +134,9 @@ handed P Q (Err g) f h q = subst Q (sym h) q
 module _ {t : Bytes} {c : Cursor} (test : ℕ → Bool) where
   pub skipped : {d : Cursor} → Stepped t c d → test (kind_at (ahead t c)) ≡ true → Skipped t c test (Some c.at, d)
   skipped s e = record { read = present test ok s e (done s.wf); first = refl; there = refl; place = s.place }
+
+  pub not_skipped : Wf t c.at → test (kind_at (ahead t c)) ≡ false → Skipped t c test (None, c)
+  not_skipped w e = record { read = absent test ok w e; first = refl; there = refl; place = refl }
 
 -- where the optional token stands, a token does
 pub there_stands : {t : Bytes} {c : Cursor} {test : ℕ → Bool} {s : Places ℕ × Cursor} → Skipped t c test s → Stands t c.at → IfSome s.0 (Stands t)

@@ -32,6 +32,11 @@ use Rattle.parser.specs.declared.TypePlaces.{TypePlaces}
 use Rattle.parser.proofs.Laws.{none_left, then, stop, done, present, broken}
 
 -- A dot, and one token more.
+pub no_dot : {k : ℕ} (ts : List Token) → k ≡ kind_at ts → (k ≡ k_dot → ⊥) → false ≡ is_dotted ts
+no_dot [] e n = refl
+no_dot (d ∷ []) e n = refl
+no_dot (d ∷ x ∷ ts) e n = sym (ne_eqb _ _ λ z. n (e ∙ z))
+
 pub dot : {t : Bytes} {c d : Cursor} → Stepped t c d → is k_dot (kind_at (ahead t c)) ≡ true → not (eqb (kind_at (ahead t d)) 0) ≡ is_dotted (ahead t c)
 dot {t} {c} {d} s e = rw s.first (go (ahead t d) refl)
   where

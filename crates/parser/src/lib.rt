@@ -13,6 +13,7 @@ ghost use Rattle.parser.specs.Trees.{last_place};
 ghost use Rattle.parser.specs.Steps.{kind_number, Decides, ahead, Stepped, TokenRead, Skipped, TypeRead, base_step, PartRead, FieldRead, HeadRead, ImportRead};
 
 pub mod fault;
+pub mod kinds;
 
 pub use fault::Fault;
 use token::kind::Kind;
@@ -43,12 +44,24 @@ pub fn peek(t: &[u8], c: Cursor) -> Option<Kind>
     }
 }
 
+/// The number of the kind of the token at c; 0 at the end.
+pub fn kind_or_end(t: &[u8], c: Cursor) -> u16
+    requires { Wf t.now c.at }
+    ensures { result ≡ kind_at (ahead t.now c) }
+{
+    let at = c.at;
+    if at < t.len() {
+        return token::number_at(t, at);
+    }
+    0
+}
+
 /// Whether a token of this kind stands at c.
 pub fn is_next(t: &[u8], c: Cursor, kind: Kind) -> bool
     requires { Wf t.now c.at }
     ensures { result ≡ is (number_of kind) (kind_at (ahead t.now c)) }
 {
-    peek(t, c) == Some(kind)
+    kind_or_end(t, c) == kind.number()
 }
 
 /// Whether no token is left at c.
@@ -56,7 +69,7 @@ pub fn is_done(t: &[u8], c: Cursor) -> bool
     requires { Wf t.now c.at }
     ensures { result ≡ eqb (kind_at (ahead t.now c)) 0 }
 {
-    peek(t, c).is_none()
+    t.len() <= c.at
 }
 
 pub fn next(t: &[u8], c: Cursor) -> Cursor

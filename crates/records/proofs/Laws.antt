@@ -10,6 +10,7 @@ use native.Mathlib.Numerals.{sub-one}
 use lib.Dec.{eqb, leb}
 use lib.ListN.{length, drop, length-append}
 use borrow.Author.Tests.{leb-true, le-leb, eq-eqb}
+use Rattle.std.specs.Prelude.{Option, None, Some, IfSome}
 use Rattle.wire.specs.Bytes.{Bytes}
 use Rattle.wire.specs.Le.{le_bytes}
 use Rattle.wire.specs.Pick.{pick}
@@ -27,15 +28,15 @@ use Rattle.token.proofs.Paragraphs.{all_take, all_drop, paragraphs_again, paragr
 use Rattle.token.proofs.Walk.{wf_good}
 use Rattle.schema.specs.Kind.{s_comment, s_array, s_plain, s_custom}
 use Rattle.schema.specs.Encode.{sized, counted, encode_comment, encode_type}
-use Rattle.grammar.specs.Tree.{TypeTree, WfType}
+use Rattle.grammar.specs.Tree.{TypeTree, Is, IfAny, WfType}
 use Rattle.grammar.specs.Place.{span}
 use Rattle.grammar.specs.Meaning.{comment_of, type_of}
-use Rattle.parser.specs.Trees.{base_at, array_at, type_at}
+use Rattle.parser.specs.Trees.{token_there, base_at, array_at, type_at}
 use Rattle.parser.specs.Steps.{Stands, Brackets}
 use Rattle.parser.specs.declared.TypePlaces.{TypePlaces}
 use Rattle.records.specs.Pieces.{source_range}
 use Rattle.records.specs.declared.SourceRange.{SourceRange}
-use Rattle.records.specs.Here.{Whole, Paragraphs}
+use Rattle.records.specs.Here.{CommentHere, Whole, Paragraphs}
 
 -- a record is its head, then its payload
 pub put_record : (kind start end : ℕ) {w : Writer} {n : ℕ} {w₁ : Writer} {payload : Bytes} {w₂ : Writer} → Puts w (head_bytes (12 + n) kind start end) w₁
@@ -68,6 +69,11 @@ module _ {t : Bytes} {at : ℕ} (s : Stands t at) where
   comment_there e h =
       let a = comment_are e in
       record { whole = record { are = a; again = paragraphs_again 32 _ (all_payload t at h) a }; these = refl }
+
+-- a comment that may be absent
+pub comment_here : (t : Bytes) (comment : Option ℕ) → IfSome comment (Stands t) → IfAny (Is k_comment) (token_there t comment) → CommentHere t comment
+comment_here t None s w = tt
+comment_here t (Some at) s w = (s, w)
 
 pub comment_absent : Paragraphs none []
 unfolding paragraphs_of are_paragraphs paragraph_bytes
@@ -149,7 +155,7 @@ module _ (t : Bytes) (close : ℕ) (base : TypeTree) where
   wf_base zero opens w = w
   wf_base (suc d) opens w = wf_base d (next_at t opens) w.1
 
-  outermost : (left opens : ℕ) → 0 < left → Brackets t close left opens
+  pub outermost : (left opens : ℕ) → 0 < left → Brackets t close left opens
       → Stands t opens × Stands t (close + 12 * (left - 1)) × Brackets t close (left - 1) (next_at t opens)
   outermost zero opens h b = absurd (omega arith)
   outermost (suc d) opens h b = rw sub-one b

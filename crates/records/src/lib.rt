@@ -72,14 +72,29 @@ fn put_sized(w: &mut Writer, s: &[u8])
     w.put_slice(s);
 }
 
-/// A record that holds a name and what follows it.
-pub fn put_named(w: &mut Writer, kind: SchemaKind, range: SourceRange, name: &[u8], rest: &[u8])
+/// A record that holds a name and what follows it, by the number of its kind.
+pub fn put_named(w: &mut Writer, kind: u16, range: SourceRange, name: &[u8], rest: &[u8])
+    requires { length name.now + length rest.now < 65522 }
+    ensures { Puts w.old (record_bytes kind range.start range.end (sized name.now ++ rest.now)) w.new }
+{
+    let size = 14 + name.len() + rest.len();
+    w.put_head(size as u16, kind, range.start, range.end);
+    put_sized(w, name);
+    w.put_slice(rest);
+}
+
+/// The same, of a kind.
+pub fn put_named_of_kind(
+    w: &mut Writer,
+    kind: SchemaKind,
+    range: SourceRange,
+    name: &[u8],
+    rest: &[u8],
+)
     requires { length name.now + length rest.now < 65522 }
     ensures { Puts w.old (record_bytes (schema_kinds.number_of kind) range.start range.end (sized name.now ++ rest.now)) w.new }
 {
-    put_record_head(w, kind, range, 2 + name.len() + rest.len());
-    put_sized(w, name);
-    w.put_slice(rest);
+    put_named(w, kind.number(), range, name, rest);
 }
 
 fn put_plain(w: &mut Writer, range: SourceRange, kind: Kind)
@@ -94,7 +109,7 @@ fn put_dotted(w: &mut Writer, t: &[u8], at: usize)
     ensures { Puts w.old (encode_type (type_of (base_at t.now at true))) w.new }
 {
     let name = token::next_at(t, token::next_at(t, at));
-    put_named(
+    put_named_of_kind(
         w,
         SchemaKind::Custom,
         span_tokens(t, at, name),
@@ -114,7 +129,13 @@ fn put_base(w: &mut Writer, t: &[u8], at: usize, dotted: bool)
     let range = span_tokens(t, at, at);
     match token::kind_at(t, at) {
         // An empty name of an import is none.
-        Kind::Identifier => put_named(w, SchemaKind::Custom, range, &[], token::payload_at(t, at)),
+        Kind::Identifier => put_named_of_kind(
+            w,
+            SchemaKind::Custom,
+            range,
+            &[],
+            token::payload_at(t, at),
+        ),
         kind => put_plain(w, range, kind),
     }
 }
