@@ -21,7 +21,7 @@ fn put_import(w: &mut Writer, t: &[u8], x: u64)
     let range = records::span_tokens(t, at, i.last());
     let name = sorted::name_of(t, x);
     let path = token::payload_at(t, i.path);
-    records::put_named(w, Kind::Import, range, name, path);
+    records::put_named_of_kind(w, Kind::Import, range, name, path);
 }
 
 pub fn put_imports(w: &mut Writer, t: &[u8], imports: &[u64])

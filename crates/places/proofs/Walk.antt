@@ -1,9 +1,10 @@
 -- What the reading of the imports gives, by the walk over them.
-use Prim.Native.Nat.{ℕ}
+use Prim.Native.Nat.{ℕ, ◌≤◌, ◌<◌}
 use mathlib.Core.Path.{◌≡◌, refl, ap, ap₂, ◌∙◌}
 use mathlib.Core.Bool.{Bool, true, false, false≢true}
 use mathlib.Core.List.{List, [], ◌∷◌, ◌++◌, map}
 use mathlib.Mathlib.Data.Bool.Basic.{or-eq-false-eq-eq-false-and-eq-false as or-eq-false-iff}
+use native.Mathlib.Omega.{arith}
 use lib.Dec.{eqb}
 use lib.ListN.{length}
 use borrow.Author.Tests.{eq-eqb}
@@ -17,8 +18,9 @@ use Rattle.grammar.specs.Tree.{ImportTree, Is, All}
 use Rattle.grammar.specs.Error.{Error, kind_at, error_at, error_over}
 use Rattle.grammar.specs.Meaning.{is_nameless, import_of}
 use Rattle.grammar.specs.Condition.{any_of, same_import, import_errors}
-use Rattle.grammar.specs.Reading.{fail, is, Reading, nothing, join, parse_import, parse_imports}
+use Rattle.grammar.specs.Reading.{Result, fail, is, Reading, nothing, join, parse_import, parse_imports}
 use Rattle.grammar.proofs.Rules.{cons≢nil, both_nil}
+use Rattle.grammar.proofs.Left.{left, import_left}
 use Rattle.grammar.proofs.Fuel.{imports_end, imports_next, imports_dropped}
 use Rattle.sorted.specs.Item.{import_at, place_of, IsImport, NamedAt, names}
 use Rattle.sorted.specs.Order.{Items}
@@ -50,6 +52,12 @@ module _ {t : Bytes} {at : ℕ} (k : Keyword t at) where
   kind_is : eqb (tok_at t at).kind k_import ≡ true
   kind_is = eq-eqb (tok_at t at).kind k_import k.kind
 
+  shorter : {m : Result ImportTree} → parse_import (tok_at t at) (tokens_from t (next_at t at)) ≡ m → length (left m) < length (tokens_from t at)
+  shorter {m} p =
+      let l : length (left m) ≤ length (tokens_from t (next_at t at)) = rw p
+      at (import_left (tok_at t at) (length (tokens_from t (next_at t at))) (tokens_from t (next_at t at)) (omega arith)) in
+      rw first (omega arith)
+
   module _ (end : ℕ) (before : List ImportTree) where
     one_read : {x : ℕ} (next : ℕ) → NamedAt t at x → (i : IsImport t at) → i.rest ≡ tokens_from t next
         → imports_after t at end before ≡ join (record { errors = import_errors before (tree_at t x); value = tree_at t x ∷ []; rest = tokens_from t next })
@@ -77,6 +85,11 @@ module _ {t : Bytes} where
   walk_keywords (none e) = tt
   walk_keywords (read k n i e v h w) = (rw n.place k.kind, walk_keywords w)
   walk_keywords (dropped k n e v h w) = walk_keywords w
+
+  pub walk_few : {at : ℕ} {whole : Bool} {xs : List ℕ} {past : ℕ} → Imports t at whole xs past → length xs ≤ length (tokens_from t at)
+  walk_few (none e) = omega arith
+  walk_few (read k n i e v h w) = omega (arith, walk_few w, shorter k i.read, ap length e)
+  walk_few (dropped k n e v h w) = omega (arith, walk_few w, shorter k e)
 
   pub walk_value : {at : ℕ} {whole : Bool} {xs : List ℕ} {past : ℕ} → Imports t at whole xs past → (end : ℕ) (before : List ImportTree)
       → (imports_after t at end before).value ≡ map (tree_at t) xs

@@ -1,3 +1,5 @@
+-- `imports::put_imports` meets its contract: each import's record is put behind those before it,
+-- and past the last one none is left to put.
 use mathlib.Core.Path.{refl}
 use Rattle.imports.proofs.Laws.{put_one, put_all}
 use Rattle.imports.proofs.put_imports.Goals as goal
