@@ -16,6 +16,7 @@ use Rattle.wire.specs.Bytes.{Bytes}
 use Rattle.wire.specs.Le.{le_at, le_number, u16_at}
 use Rattle.wire.specs.Pick.{pick}
 use Rattle.identifier.specs.Name.{is_name}
+use Rattle.identifier.proofs.Good.{name_short}
 use Rattle.names.specs.Namespace.{first_name, after_name, starts_name, are_names, is_namespace, names_in, names_of}
 use Rattle.names.specs.Whole.{is_whole, Split, whole_in, whole_of}
 
@@ -157,6 +158,10 @@ pub record Front (names : List Bytes) (name left : Bytes) : Type 0 where
 pub front : {bs : Bytes} {names : List Bytes} {name after : Bytes} → Holds bs names → Split bs name after → Front names name after
 front none p = absurd (unsplit p)
 front (more {names = names} s r) p = record { rest = names; is = ap (λ (x : Bytes). x ∷ names) (sym p.first); after = rw p.after r }
+
+pub short : {bs : Bytes} {names : List Bytes} {name after : Bytes} → Holds bs names → Split bs name after → length name ≤ 128
+short none p = absurd (unsplit p)
+short (more {b = b} {bs = bs} s r) p = rw p.first (name_short (first_name (b ∷ bs)) (starts (b ∷ bs) s).1)
 
 pub at_end : {bs : Bytes} {names : List Bytes} → Holds bs names → is_whole bs ≡ false → names ≡ []
 at_end none e = refl

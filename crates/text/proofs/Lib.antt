@@ -1,6 +1,7 @@
 -- The theorems and laws of the canonical text.
 pub mod Laws
 pub mod Wrap
+pub mod Places
 pub mod Lines
 pub mod Comment
 pub mod Cases

@@ -122,7 +122,17 @@ pub fn put_import(w: &mut Writer, name: &[u8], path: &[u8])
     w.put_byte(b'\n');
 }
 
-pub fn put_plain(w: &mut Writer, kind: Kind)
+// The number of a plain type's kind; any other is printed as Unit's.
+pub fn put_plain(w: &mut Writer, kind: u16)
+    ensures { Puts w.old (plain_text kind) w.new }
+{
+    match Kind::try_from(kind) {
+        Ok(kind) => put_plain_of_kind(w, kind),
+        Err(_) => w.put_slice(b"Unit"),
+    }
+}
+
+pub fn put_plain_of_kind(w: &mut Writer, kind: Kind)
     ensures { Puts w.old (plain_text (number_of kind)) w.new }
 {
     match kind {
@@ -196,22 +206,30 @@ pub fn put_deleted(w: &mut Writer, fields: bool, p: &[u8])
     w.put_byte(b'\n');
 }
 
-fn put_keyword(w: &mut Writer, kind: SchemaKind)
-    ensures { Puts w.old (variant_text (variant_of (schema_kinds.number_of kind))) w.new }
+fn put_keyword(w: &mut Writer, kind: u16)
+    ensures { Puts w.old (variant_text (variant_of kind)) w.new }
 {
-    match kind {
-        SchemaKind::Struct => w.put_slice(b"struct "),
-        _ => w.put_slice(b"choice "),
+    if kind == SchemaKind::Struct.number() {
+        w.put_slice(b"struct ");
+    } else {
+        w.put_slice(b"choice ");
     }
 }
 
-// A declaration up to its fields; q holds the name and the comment.
-pub fn put_head(w: &mut Writer, kind: SchemaKind, q: &[u8])
+// A declaration up to its fields, by the number of its kind; q holds the name and the comment.
+pub fn put_head(w: &mut Writer, kind: u16, q: &[u8])
     requires { is_declaration q.now ≡ true }
-    ensures { Puts w.old (head_text (comment_of (after_name q.now)) (variant_of (schema_kinds.number_of kind)) (name_of q.now)) w.new }
+    ensures { Puts w.old (head_text (comment_of (after_name q.now)) (variant_of kind) (name_of q.now)) w.new }
 {
     put_counted(w, b"", schema::after_name(q));
     put_keyword(w, kind);
     put_pascal(w, schema::name_of(q));
     w.put_slice(b" {\n");
+}
+
+pub fn put_head_of_kind(w: &mut Writer, kind: SchemaKind, q: &[u8])
+    requires { is_declaration q.now ≡ true }
+    ensures { Puts w.old (head_text (comment_of (after_name q.now)) (variant_of (schema_kinds.number_of kind)) (name_of q.now)) w.new }
+{
+    put_head(w, kind.number(), q);
 }

@@ -20,7 +20,7 @@ use schema::kind::Kind;
 use token::kind::Kind as TokenKind;
 use wire::{Refusal, Refused, Writer};
 
-// Records are told by their places in the table, as schema tells them (`kind_at`, `next_at`, `payload_at`), so the loops over them step from place to
+// Records are told by their places in the table, as schema tells them (`known_kind_at`, `next_at`, `payload_at`), so the loops over them step from place to
 // place.
 
 // The place of the type inside all arrays of a type.
@@ -29,7 +29,7 @@ fn innermost(t: &[u8], from: usize) -> usize
     ensures { result ≡ from + 12 * depth_at t.now from }
 {
     let mut at = from;
-    while schema::kind_at(t, at) == Kind::Array {
+    while schema::known_kind_at(t, at) == Kind::Array {
         at += 12;
     }
     at
@@ -49,7 +49,7 @@ fn put_base(w: &mut Writer, kind: Kind, p: &[u8])
     ensures { Puts w.old (base_text (number_of kind) p.now) w.new }
 {
     match kind {
-        Kind::Plain => text::put_plain(w, plain_kind(p)),
+        Kind::Plain => text::put_plain_of_kind(w, plain_kind(p)),
         _ => text::put_custom(w, schema::name_of(p), schema::after_name(p)),
     }
 }
@@ -68,7 +68,7 @@ fn put_variant(w: &mut Writer, t: &[u8], from: usize, left: usize)
     requires { Nested t.now from left }
     ensures { Puts w.old (type_text (type_at t.now from)) w.new }
 {
-    match schema::kind_at(t, from) {
+    match schema::known_kind_at(t, from) {
         Kind::Array => {
             w.put_byte(b'[');
             put_type(w, t, from + 12, left - 1);
@@ -82,7 +82,7 @@ fn is_unit(t: &[u8], from: usize) -> bool
     requires { Stands t.now from is_type }
     ensures { result ≡ is_unit (type_at t.now from) }
 {
-    schema::kind_at(t, from) == Kind::Plain
+    schema::known_kind_at(t, from) == Kind::Plain
         && plain_kind(schema::payload_at(t, from)) == TokenKind::Unit
 }
 
@@ -122,7 +122,7 @@ fn put_fields(w: &mut Writer, t: &[u8], from: usize) -> usize
     let mut at = from;
     // Whether the field before has a comment decides the line between the two.
     let mut commented = false;
-    while at < t.len() && schema::kind_at(t, at) == Kind::Field {
+    while at < t.len() && schema::known_kind_at(t, at) == Kind::Field {
         let next = schema::next_at(t, at);
         let inner = innermost(t, next);
         let p = schema::payload_at(t, at);
@@ -141,7 +141,7 @@ fn put_end(w: &mut Writer, t: &[u8], at: usize, fields: bool) -> usize
     ensures { Ended t.now at fields w.old result w.new }
 {
     let mut next = at;
-    if at < t.len() && schema::kind_at(t, at) == Kind::Deleted {
+    if at < t.len() && schema::known_kind_at(t, at) == Kind::Deleted {
         text::put_deleted(w, fields, schema::payload_at(t, at));
         next = schema::next_at(t, at);
     }
@@ -154,7 +154,7 @@ fn put_declaration(w: &mut Writer, t: &[u8], at: usize) -> usize
     ensures { Declared t.now at w.old result w.new }
 {
     let first = schema::next_at(t, at);
-    text::put_head(w, schema::kind_at(t, at), schema::payload_at(t, at));
+    text::put_head_of_kind(w, schema::known_kind_at(t, at), schema::payload_at(t, at));
     let end = put_fields(w, t, first);
     put_end(w, t, end, end != first)
 }
@@ -177,7 +177,7 @@ fn put_imports(w: &mut Writer, t: &[u8], from: usize) -> usize
     ensures { Imported t.now from w.old result w.new }
 {
     let mut at = from;
-    while at < t.len() && schema::kind_at(t, at) == Kind::Import {
+    while at < t.len() && schema::known_kind_at(t, at) == Kind::Import {
         let p = schema::payload_at(t, at);
         text::put_import(w, schema::name_of(p), schema::after_name(p));
         at = schema::next_at(t, at);
@@ -190,7 +190,7 @@ fn put_opening(w: &mut Writer, t: &[u8]) -> usize
     requires { is_schema_table t.now ≡ true }
     ensures { Commented t.now w.old result w.new }
 {
-    if t.is_empty() || schema::kind_at(t, 0) != Kind::Comment {
+    if t.is_empty() || schema::known_kind_at(t, 0) != Kind::Comment {
         return 0;
     }
     let next = schema::next_at(t, 0);

@@ -1,13 +1,14 @@
 -- `text::put_keyword` meets its contract.
+use Rattle.std.proofs.Common.{arith}
+use borrow.Author.Tests.{eq-eqb, ne_eqb}
 use Rattle.wire.specs.Pick.{pick}
-use Rattle.schema.specs.declared.kind.Kind.TheVariants.{Struct}
-use Rattle.schema.proofs.Known.{not_kind}
 use Rattle.text.proofs.put_keyword.Goals as goal
 
-pub returns-in-Struct : goal.returns-in-Struct
+pub returns-then-kind-number : goal.returns-then-kind-number
 unfolding pick
-returns-in-Struct c = rw c.in-Struct.is c.put_slice.ensures
+returns-then-kind-number c = rw (eq-eqb c.args.kind 103 (omega (arith, c.if-kind-number.true, c.number.ensures))) c.put_slice.ensures
 
-pub returns-in_default : goal.returns-in_default
+pub returns-else-kind-number : goal.returns-else-kind-number
 unfolding pick
-returns-in_default c = rw (not_kind c.args.kind Struct c.in_default.not-Struct) c.put_slice-in_default.ensures
+returns-else-kind-number c =
+    rw (ne_eqb c.args.kind 103 (λ e. c.if-kind-number.false (omega (arith, e, c.number.ensures)))) c.put_slice-else-kind-number.ensures

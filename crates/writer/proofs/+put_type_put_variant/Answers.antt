@@ -7,8 +7,8 @@ use Rattle.text.specs.Text.{type_text}
 use Rattle.writer.proofs.Types.{type_record, array_at, one_less, base_at_lem}
 use Rattle.writer.proofs.+put_type_put_variant.Goals as goal
 
-pub put_variant-kind_at-requires : goal.put_variant-kind_at-requires
-put_variant-kind_at-requires t c = let r = type_record c.requires.stands in (r.whole, r.right)
+pub put_variant-known_kind_at-requires : goal.put_variant-known_kind_at-requires
+put_variant-known_kind_at-requires t c = let r = type_record c.requires.stands in (r.whole, r.right)
 
 pub put_variant-overflow_sub-left : goal.put_variant-overflow_sub-left
 put_variant-overflow_sub-left t c = omega (arith, one_less c.requires.stands (sym c.in-Array.ensures) c.requires.depth)
@@ -33,10 +33,10 @@ put_variant-payload_at-requires t c = (type_record c.requires.stands).whole
 
 pub put_variant-put_base-requires : goal.put_variant-put_base-requires
 put_variant-put_base-requires t c =
-    rw (c.kind_at.ensures, c.payload_at.ensures)
-    (base_at_lem c.requires.stands (λ e. c.in_default.not-Array (one_kind _ Array (c.kind_at.ensures ∙ e)))).right
+    rw (c.known_kind_at.ensures, c.payload_at.ensures)
+    (base_at_lem c.requires.stands (λ e. c.in_default.not-Array (one_kind _ Array (c.known_kind_at.ensures ∙ e)))).right
 
 pub put_variant-returns-in_default : goal.put_variant-returns-in_default
 put_variant-returns-in_default t c =
-    rw (base_at_lem c.requires.stands (λ e. c.in_default.not-Array (one_kind _ Array (c.kind_at.ensures ∙ e)))).text
-    (rw (c.kind_at.ensures, c.payload_at.ensures) at c.put_base.ensures)
+    rw (base_at_lem c.requires.stands (λ e. c.in_default.not-Array (one_kind _ Array (c.known_kind_at.ensures ∙ e)))).text
+    (rw (c.known_kind_at.ensures, c.payload_at.ensures) at c.put_base.ensures)

@@ -8,8 +8,8 @@ use Rattle.writer.proofs.innermost.Goals as goal
 pub loop-at-init : goal.loop-at-init
 loop-at-init c = deeper_begin c.requires
 
-pub kind_at-requires : goal.kind_at-requires
-kind_at-requires c = let r = type_record c.loop-at.invariant.stands in (r.whole, r.right)
+pub known_kind_at-requires : goal.known_kind_at-requires
+known_kind_at-requires c = let r = type_record c.loop-at.invariant.stands in (r.whole, r.right)
 
 pub overflow_add-at : goal.overflow_add-at
 overflow_add-at c = omega (arith, (type_record c.loop-at.invariant.stands).whole)
@@ -18,7 +18,7 @@ pub loop-at-smaller : goal.loop-at-smaller
 loop-at-smaller c = omega (arith, (type_record c.loop-at.invariant.stands).whole)
 
 pub loop-at-preserved : goal.loop-at-preserved
-loop-at-preserved c = deeper_more c.loop-at.invariant (same _ Array c.kind_at.ensures c.loop-at-test.ensures)
+loop-at-preserved c = deeper_more c.loop-at.invariant (same _ Array c.known_kind_at.ensures c.loop-at-test.ensures)
 
 pub returns : goal.returns
-returns c = deeper_done c.loop-at.invariant (differs _ Array c.kind_at.ensures c.loop-at-test.ensures)
+returns c = deeper_done c.loop-at.invariant (differs _ Array c.known_kind_at.ensures c.loop-at-test.ensures)

@@ -15,19 +15,19 @@ unit_is : (k : Kind) → sameb the_type k Unit ≡ eqb (number_of k) 25
 unit_is Unit = refl
 unit_is _ = refl
 
-pub kind_at-requires : goal.kind_at-requires
-kind_at-requires c = let r = type_record c.requires in (r.whole, r.right)
+pub known_kind_at-requires : goal.known_kind_at-requires
+known_kind_at-requires c = let r = type_record c.requires in (r.whole, r.right)
 
 pub payload_at-requires : goal.payload_at-requires
 payload_at-requires c = (type_record c.requires).whole
 
 pub plain_kind-requires : goal.plain_kind-requires
-plain_kind-requires c = rw c.payload_at.ensures (plain_at c.requires (same _ Plain c.kind_at.ensures c.if-eq.ensures))
+plain_kind-requires c = rw c.payload_at.ensures (plain_at c.requires (same _ Plain c.known_kind_at.ensures c.if-eq.ensures))
 
 pub returns-then-eq : goal.returns-then-eq
 returns-then-eq c =
-    rw (unit_at c.requires, eq-eqb _ _ (same _ Plain c.kind_at.ensures c.if-eq.ensures), ← c.payload_at.ensures, ← c.plain_kind.ensures)
+    rw (unit_at c.requires, eq-eqb _ _ (same _ Plain c.known_kind_at.ensures c.if-eq.ensures), ← c.payload_at.ensures, ← c.plain_kind.ensures)
     (c.eq-then-eq.ensures ∙ unit_is c.plain_kind.result)
 
 pub returns-else-eq : goal.returns-else-eq
-returns-else-eq c = rw (unit_at c.requires, ne_eqb _ _ (differs _ Plain c.kind_at.ensures c.if-eq.ensures)) c.if-eq.false
+returns-else-eq c = rw (unit_at c.requires, ne_eqb _ _ (differs _ Plain c.known_kind_at.ensures c.if-eq.ensures)) c.if-eq.false

@@ -25,7 +25,7 @@ after_name-requires c = sized (goal.at.after_name-requires c).In_default
 
 pub returns-in-Plain : goal.returns-in-Plain
 unfolding base_text pick
-returns-in-Plain c = rw (c.in-Plain.is, ← c.plain_kind.ensures) c.put_plain.ensures
+returns-in-Plain c = rw (c.in-Plain.is, ← c.plain_kind.ensures) c.put_plain_of_kind.ensures
 
 pub returns-in_default : goal.returns-in_default
 unfolding base_text pick

@@ -15,7 +15,7 @@ use Rattle.writer.proofs.put_fields.Goals as goal
 
 -- the field at the loop's place, and its type inside the arrays
 here : (c : Then-eq) → FieldAt c.args.t.now c.loop-at.at
-here c = field_at c.loop-at.invariant.stands c.loop-at-test.true (same _ Field c.kind_at.ensures c.if-eq.ensures)
+here c = field_at c.loop-at.invariant.stands c.loop-at-test.true (same _ Field c.known_kind_at.ensures c.if-eq.ensures)
 
 inside : (c : After-innermost-inner) → Typed c.args.t.now (next_at c.args.t.now c.loop-at.at) c.innermost-inner.result
 inside c = typed _ (here (goal.at-After-innermost-inner c).Then-eq).type refl (rw c.next_at-next.ensures at c.innermost-inner.ensures)
@@ -31,8 +31,8 @@ blank_line c =
 pub loop-at-init : goal.loop-at-init
 loop-at-init c = fielding_begin c.requires
 
-pub kind_at-requires : goal.kind_at-requires
-kind_at-requires c = let r = (record_at c.loop-at.invariant.stands c.loop-at-test.true) in (r.whole, r.right)
+pub known_kind_at-requires : goal.known_kind_at-requires
+known_kind_at-requires c = let r = (record_at c.loop-at.invariant.stands c.loop-at-test.true) in (r.whole, r.right)
 
 pub next_at-next-requires : goal.next_at-next-requires
 next_at-next-requires c = let w = (here (goal.at.next_at-next-requires c).Then-eq).whole in (omega (arith, w), w.tail)
@@ -63,13 +63,13 @@ pub loop-at-preserved : goal.loop-at-preserved
 loop-at-preserved c =
     let n = c.next_at-next.ensures in
     let p = c.payload_at-p.ensures in
-    fielding_more c.loop-at.invariant c.loop-at-test.true (same _ Field c.kind_at.ensures c.if-eq.ensures) (rw n at c.innermost-inner.ensures)
+    fielding_more c.loop-at.invariant c.loop-at-test.true (same _ Field c.known_kind_at.ensures c.if-eq.ensures) (rw n at c.innermost-inner.ensures)
     c.next_at-at.ensures (rw p at c.has_comment-has.ensures)
     (blank_line (goal.at.loop-at-preserved c).After-put_blank) (rw (p, n) at c.put_field.ensures)
 
 pub returns-else-eq : goal.returns-else-eq
 returns-else-eq c =
-    fielding_other c.loop-at.invariant c.loop-at-test.true (ne_eqb _ _ (differs _ Field c.kind_at.ensures c.if-eq.ensures))
+    fielding_other c.loop-at.invariant c.loop-at-test.true (ne_eqb _ _ (differs _ Field c.known_kind_at.ensures c.if-eq.ensures))
 
 pub returns-after-loop-at : goal.returns-after-loop-at
 returns-after-loop-at c = fielding_end c.loop-at.invariant c.loop-at-test.false

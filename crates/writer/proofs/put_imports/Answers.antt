@@ -11,13 +11,13 @@ use Rattle.writer.proofs.put_imports.Goals as goal
 
 -- the import at the loop's place
 here : (c : Then-eq) → ImportAt c.args.t.now c.loop-at.at
-here c = import_at_lem c.loop-at.invariant.opened c.loop-at-test.true (same _ Import c.kind_at.ensures c.if-eq.ensures)
+here c = import_at_lem c.loop-at.invariant.opened c.loop-at-test.true (same _ Import c.known_kind_at.ensures c.if-eq.ensures)
 
 pub loop-at-init : goal.loop-at-init
 loop-at-init c = importing_begin c.requires
 
-pub kind_at-requires : goal.kind_at-requires
-kind_at-requires c = let r = (record_at c.loop-at.invariant.opened.stands c.loop-at-test.true) in (r.whole, r.right)
+pub known_kind_at-requires : goal.known_kind_at-requires
+known_kind_at-requires c = let r = (record_at c.loop-at.invariant.opened.stands c.loop-at-test.true) in (r.whole, r.right)
 
 pub payload_at-p-requires : goal.payload_at-p-requires
 payload_at-p-requires c = (here (goal.at.payload_at-p-requires c).Then-eq).whole
@@ -36,12 +36,12 @@ loop-at-smaller c = omega (arith, (here (goal.at.loop-at-smaller c).Then-eq).who
 
 pub loop-at-preserved : goal.loop-at-preserved
 loop-at-preserved c =
-    importing_more c.loop-at.invariant c.loop-at-test.true (same _ Import c.kind_at.ensures c.if-eq.ensures) c.next_at-at.ensures
+    importing_more c.loop-at.invariant c.loop-at-test.true (same _ Import c.known_kind_at.ensures c.if-eq.ensures) c.next_at-at.ensures
     (rw (c.name_of.ensures, c.after_name.ensures, c.payload_at-p.ensures) at c.put_import.ensures)
 
 pub returns-else-eq : goal.returns-else-eq
 returns-else-eq c =
-    importing_other c.loop-at.invariant c.loop-at-test.true (ne_eqb _ _ (differs _ Import c.kind_at.ensures c.if-eq.ensures))
+    importing_other c.loop-at.invariant c.loop-at-test.true (ne_eqb _ _ (differs _ Import c.known_kind_at.ensures c.if-eq.ensures))
 
 pub returns-after-loop-at : goal.returns-after-loop-at
 returns-after-loop-at c = importing_end c.loop-at.invariant c.loop-at-test.false

@@ -20,10 +20,10 @@ turned a false e = rw e
 
 -- the schema comment's record
 here : (c : Else-ne) → CommentAt c.args.t.now
-here c = comment_at _ c.requires (some _ c.if-is_empty.ensures) (same _ Comment c.kind_at.ensures (turned _ _ c.if-ne.ensures))
+here c = comment_at _ c.requires (some _ c.if-is_empty.ensures) (same _ Comment c.known_kind_at.ensures (turned _ _ c.if-ne.ensures))
 
-pub kind_at-requires : goal.kind_at-requires
-kind_at-requires c = let r = record_at (stands_start _ c.requires) (some _ c.if-is_empty.ensures) in (r.whole, r.right)
+pub known_kind_at-requires : goal.known_kind_at-requires
+known_kind_at-requires c = let r = record_at (stands_start _ c.requires) (some _ c.if-is_empty.ensures) in (r.whole, r.right)
 
 pub returns-then-is_empty : goal.returns-then-is_empty
 returns-then-is_empty c =
@@ -31,7 +31,7 @@ returns-then-is_empty c =
       | then-is_empty-via-then-is_empty d ↦ uncommented_end _ c.requires (omega (arith, eqb-true _ _ (sym c.is_empty.ensures ∙ d.if-is_empty.true)))
       | then-is_empty-via-else-is_empty+then-ne d ↦
           uncommented_other _ c.requires (some _ (sym d.if-is_empty.false ∙ c.is_empty.ensures))
-          (ne_eqb _ _ (differs _ Comment d.kind_at.ensures (turned _ _ d.if-ne.ensures)))
+          (ne_eqb _ _ (differs _ Comment d.known_kind_at.ensures (turned _ _ d.if-ne.ensures)))
     ]
 
 pub next_at-next-requires : goal.next_at-next-requires
