@@ -6,7 +6,7 @@ ghost use Rattle.std.specs.Prelude.{◌≡◌, ◌≤◌, length};
 ghost use Rattle.token.specs.Places.{tokens_from};
 ghost use Rattle.places.specs.Imports.{Orders};
 ghost use Rattle.judge.specs.Judges.{Room, Judgeable};
-ghost use Rattle.collector.specs.Collected.{Collected, Counts, Grows, grown_to, ImportsPushed, DeclarationsPushed};
+ghost use Rattle.collector.specs.Collected.{Collected, Counts, Grows, grown_to, ImportsFrom, DeclarationsFrom, ImportsPushed, DeclarationsPushed};
 
 use parser::Cursor;
 use places::Ordered;
@@ -31,6 +31,42 @@ impl Collector {
     }
 }
 
+// The imports, by value: answers where their errors end, and where the declarations begin.
+fn write_imports(
+    out: &mut [u8],
+    at: usize,
+    t: &[u8],
+    end: u32,
+    imports: &[u64],
+    order: Ordered,
+    marks: &mut [u64],
+) -> (usize, Cursor)
+    requires { (Orders t.now imports.now order) × (length (tokens_from t.now 0) ≤ length marks.old) }
+    ensures { ImportsFrom t.now end out.old at out.new result.0 result.1 }
+{
+    let mut w = Writer { out, at };
+    let next = judge::judge_imports(&mut w, t, end, imports, order, marks);
+    (w.at, next)
+}
+
+// The declarations, by value: answers where their errors end.
+fn write_declarations(
+    out: &mut [u8],
+    at: usize,
+    t: &[u8],
+    from: Cursor,
+    end: u32,
+    items: &mut [u64],
+    spare: &mut [u64],
+) -> usize
+    requires { Room t.now from items.old spare.old }
+    ensures { DeclarationsFrom t.now from end out.old at out.new result }
+{
+    let mut w = Writer { out, at };
+    judge::judge_declarations(&mut w, t, from, end, items, spare);
+    w.at
+}
+
 // Answers where the declarations begin.
 fn push_imports(
     errors: &mut Collector,
@@ -44,12 +80,8 @@ fn push_imports(
     requires { (Counts errors.old) × (Orders t.now imports.now order) × (length (tokens_from t.now 0) ≤ length marks.old) }
     ensures { ImportsPushed t.now end out.old errors.old out.new errors.new result }
 {
-    let mut w = Writer {
-        out,
-        at: errors.length,
-    };
-    let next = judge::judge_imports(&mut w, t, end, imports, order, marks);
-    errors.grow(w.at);
+    let (to, next) = write_imports(out, errors.length, t, end, imports, order, marks);
+    errors.grow(to);
     next
 }
 
@@ -65,12 +97,8 @@ fn push_declarations(
     requires { (Counts errors.old) × (Room t.now from items.old spare.old) }
     ensures { DeclarationsPushed t.now from end out.old errors.old out.new errors.new }
 {
-    let mut w = Writer {
-        out,
-        at: errors.length,
-    };
-    judge::judge_declarations(&mut w, t, from, end, items, spare);
-    errors.grow(w.at);
+    let to = write_declarations(out, errors.length, t, from, end, items, spare);
+    errors.grow(to);
 }
 
 // The schema's rules in turn: the errors of a table that token::check passed, of which `end` is the last token's end. The lent lists have room for a

@@ -44,6 +44,10 @@ lines_more {list} error rest g l p =
           rest_step p g.left (rw (n, same 2 2 (omega arith), same 4 4 (omega arith), same 4 8 (omega arith), same 2 12 (omega arith)));
     }
 
+-- a record is no longer than the list that it stands in
+pub lines_hold : {list : Bytes} (error rest : Bytes) {w₀ w : Writer} → Lines list w₀ w (error ++ rest) → length error ≤ length list
+lines_hold {list} error rest g = omega (arith, length-append error rest, ap length g.here, length-drop g.at list)
+
 pub lines_none : {list rest : Bytes} {w₀ w : Writer} → Lines list w₀ w rest → length rest < 14 → Puts w₀ (error_lines (length list / 14) list 0) w
 unfolding error_lines
 lines_none {rest = rest} g h =

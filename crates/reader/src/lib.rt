@@ -8,7 +8,7 @@ ghost use Rattle.schema.specs.Encode.{encode_schema};
 ghost use Rattle.grammar.specs.Meaning.{schema_of};
 ghost use Rattle.grammar.specs.Reading.{parse_schema};
 ghost use Rattle.emit.specs.Emits.{Readable};
-ghost use Rattle.reader.specs.Answers.{Answers, Checked, Lent, Ready, Clean};
+ghost use Rattle.reader.specs.Answers.{Answers, Checked, Ready, Clean};
 
 use places::Ordered;
 use wire::{Refusal, Refused, Writer};

@@ -4,4 +4,4 @@ use Rattle.collector.proofs.Laws.{grows}
 use Rattle.collector.proofs.push_declarations.Goals as goal
 
 pub grow-requires : goal.grow-requires
-grow-requires c = grows _ c.requires.0 (omega arith) c.judge_declarations.ensures.wrote
+grow-requires c = grows _ c.requires.0 (omega arith) c.write_declarations-to.ensures

@@ -4,4 +4,4 @@ use Rattle.collector.proofs.Laws.{grows}
 use Rattle.collector.proofs.push_imports.Goals as goal
 
 pub grow-requires : goal.grow-requires
-grow-requires c = grows _ c.requires.0 (omega arith) c.judge_imports-next.ensures.wrote.wrote
+grow-requires c = grows _ c.requires.0 (omega arith) c.write_imports-to.ensures.wrote
